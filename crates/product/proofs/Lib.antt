@@ -1,0 +1,17 @@
+pub mod Lists
+pub mod Ways
+pub mod Closed
+pub mod Rounds
+pub mod Range
+pub mod Why
+pub mod Runs
+pub mod Meaning
+pub mod Count
+pub mod Growth
+pub mod Verdict
+pub mod Budget
+pub mod Check
+pub mod Replay
+pub mod Ranks
+pub mod Falling
+pub mod Demands

@@ -1,0 +1,12 @@
+pub mod Lists
+pub mod Product
+pub mod Runs
+pub mod Facts
+pub mod Rounds
+pub mod Why
+pub mod Verdict
+pub mod Table
+pub mod Trace
+pub mod Replay
+pub mod Check
+pub mod Demands
