@@ -1,0 +1,95 @@
+-- What a valid model record has: its counts within their sizes, and a product in range. Assumes nothing.
+use mathlib.Core.Bool.{Bool, _&&_}
+use mathlib.Core.Path.{subst}
+use Prim.Native.Nat.{ℕ, _<_, _≤_}
+use lib.Dec.{T, leb, ltb, leb→le, ltb→lt}
+use Rattle.product.specs.Lists.{upTo, all, All, _∈_}
+use Rattle.product.specs.Product.{symbol, pushed, InRange}
+use Rattle.product.proofs.Lists.{and-left, and-right, in-upTo, All-of, All-at}
+use Rattle.model.specs.declared.Model.{Model}
+use Rattle.model.specs.Model.{inRow, rule, move, productOf}
+use Rattle.model.specs.Valid.{sizesIn, startIn, ruleIn, moveIn, valid}
+use Rattle.model.proofs.Steps.{next-is}
+
+-- a test that every number below n passes
+all-below : (p : ℕ → Bool) (n : ℕ) → T (all p (upTo n)) → (i : ℕ) → i < n → T (p i)
+all-below p n t i l = All-at (λ i. T (p i)) (upTo n) (All-of (λ i. T (p i)) p (λ _ x. x) (upTo n) t) i (in-upTo n i l)
+
+pub record Sizes (m : Model) : Type 0 where
+  pub some-symbol : 1 ≤ m .symbols
+  pub symbols : m .symbols ≤ 32
+  pub some-state : 1 ≤ m .states
+  pub states : m .states ≤ 8
+  pub some-event : 1 ≤ m .events
+  pub events : m .events ≤ 16
+  pub rules : m .rules ≤ 256
+  pub moves : m .moves ≤ 128
+
+module _ (m : Model) (t : T (valid m)) where
+  abbrev rulesIn : Bool
+  rulesIn = all (ruleIn m) (upTo (m .rules))
+
+  abbrev movesIn : Bool
+  movesIn = all (moveIn m) (upTo (m .moves))
+
+  sized-started : T (sizesIn m && startIn m && rulesIn)
+  unfolding valid
+  sized-started = and-left (sizesIn m && startIn m && rulesIn) movesIn t
+
+  started : T (startIn m)
+  started = and-right (sizesIn m) (startIn m) (and-left (sizesIn m && startIn m) rulesIn sized-started)
+
+  pub valid-rule : (r : ℕ) → r < m .rules → T (ruleIn m r)
+  valid-rule = all-below (ruleIn m) (m .rules) (and-right (sizesIn m && startIn m) rulesIn sized-started)
+
+  pub valid-move : (v : ℕ) → v < m .moves → T (moveIn m v)
+  unfolding valid
+  valid-move = all-below (moveIn m) (m .moves) (and-right (sizesIn m && startIn m && rulesIn) movesIn t)
+
+  pub valid-sizes : Sizes m
+  valid-sizes =
+      let G : Bool = leb 1 (m .symbols) && leb (m .symbols) 32 in
+      let Q : Bool = leb 1 (m .states) && leb (m .states) 8 in
+      let E : Bool = leb 1 (m .events) && leb (m .events) 16 in
+      let R : Bool = leb (m .rules) 256 in
+      let M : Bool = leb (m .moves) 128 in
+      let s : T (sizesIn m) = and-left (sizesIn m) (startIn m) (and-left (sizesIn m && startIn m) rulesIn sized-started) in
+      let r : T (G && Q && E && R) = and-left (G && Q && E && R) M s in
+      let e : T (G && Q && E) = and-left (G && Q && E) R r in
+      let q : T (G && Q) = and-left (G && Q) E e in
+      record {
+        some-symbol = leb→le 1 (m .symbols) (and-left (leb 1 (m .symbols)) (leb (m .symbols) 32) (and-left G Q q));
+        symbols = leb→le (m .symbols) 32 (and-right (leb 1 (m .symbols)) (leb (m .symbols) 32) (and-left G Q q));
+        some-state = leb→le 1 (m .states) (and-left (leb 1 (m .states)) (leb (m .states) 8) (and-right G Q q));
+        states = leb→le (m .states) 8 (and-right (leb 1 (m .states)) (leb (m .states) 8) (and-right G Q q));
+        some-event = leb→le 1 (m .events) (and-left (leb 1 (m .events)) (leb (m .events) 16) (and-right (G && Q) E e));
+        events = leb→le (m .events) 16 (and-right (leb 1 (m .events)) (leb (m .events) 16) (and-right (G && Q) E e));
+        rules = leb→le (m .rules) 256 (and-right (G && Q && E) R r);
+        moves = leb→le (m .moves) 128 (and-right (G && Q && E && R) M s);
+      }
+
+  pub product-in : InRange (productOf m)
+  product-in = record {
+    state-in = in-upTo (m .states) (m .startstate) (ltb→lt (m .startstate) (m .states) (and-left (ltb (m .startstate) (m .states)) (ltb (m .startsymbol) (m .symbols)) started));
+    symbol-in = ltb→lt (m .startsymbol) (m .symbols) (and-right (ltb (m .startstate) (m .states)) (ltb (m .startsymbol) (m .symbols)) started);
+    rules-in = λ r l.
+        let k : Bool = leb (inRow 4 (m .rulerows) r 0) 2 in
+        let g : Bool = ltb (symbol (rule m r)) (m .symbols) in
+        let a : Bool = all (λ g. ltb g (m .symbols)) (pushed (rule m r)) in
+        let u : T (k && g && a) = valid-rule r l in (
+          ltb→lt (symbol (rule m r)) (m .symbols) (and-right k g (and-left (k && g) a u)),
+          All-of (λ g. g < m .symbols) (λ g. ltb g (m .symbols)) (λ g x. ltb→lt g (m .symbols) x) (pushed (rule m r)) (and-right (k && g) a u),
+        );
+    steps-in = λ s q q′ e.
+        let (h, i) = next-is m s q q′ e in
+        let v : ℕ = s .by-move in
+        let a : Bool = ltb (move m v .source) (m .states) in
+        let b : Bool = ltb (move m v .event) (m .events) in
+        let c : Bool = ltb (move m v .target) (m .states) in
+        let u : T (a && b && c) = valid-move v (h .move-there) in (
+          h .rule-there,
+          h .move-there,
+          subst (λ q. q ∈ upTo (m .states)) (h .here) (in-upTo (m .states) (move m v .source) (ltb→lt (move m v .source) (m .states) (and-left a b (and-left (a && b) c u)))),
+          subst (λ q. q ∈ upTo (m .states)) i (in-upTo (m .states) (move m v .target) (ltb→lt (move m v .target) (m .states) (and-right (a && b) c u))),
+        );
+  }
