@@ -1,0 +1,4 @@
+pub mod Bytes
+pub mod Cells
+pub mod Store
+pub mod LaidOut

@@ -1,0 +1,43 @@
+-- `table::triple_at` meets its contract. Assumes nothing.
+use borrow.Author.Needs.{needs}
+use Rattle.table.proofs.Bytes.{tests}
+use Rattle.table.proofs.Cells.{triple-inside, read-past, read-cell}
+use Rattle.table.proofs.triple_at.Statement.{statement}
+use Rattle.table.proofs.triple_at.Tie as tie
+
+returns : tie.Need-returns
+returns c = search tests
+
+returns-2 : tie.Need-returns-2
+returns-2 c = search tests
+
+returns-3 : tie.Need-returns-3
+returns-3 c = search tests
+
+triple-cell-requires : tie.Need-triple-cell-requires
+triple-cell-requires c κs = search needs
+
+returns-4 : tie.Need-returns-4
+returns-4 c = read-past (triple-inside (c .before .before .before .before .before .before .if1 .left) (c .before .before .before .before .if2 .left) (c .before .before .if3 .left)) (c .before .triple-cell .ensures) (c .before .before .before .before .before .before .before .before .before .args .triples .now) 65535 (c .if4 .taken)
+
+mul-result : tie.Need-mul-result
+mul-result c = search needs
+
+shared-slice-read-result : tie.Need-shared-slice-read-result
+shared-slice-read-result c = search needs
+
+returns-5 : tie.Need-returns-5
+returns-5 c = read-cell (triple-inside (c .before .before .before .before .before .before .before .if1 .left) (c .before .before .before .before .before .if2 .left) (c .before .before .before .if3 .left)) (c .before .before .triple-cell .ensures) (c .before .before .before .before .before .before .before .before .before .before .args .triples .now) 65535
+
+pub triple-at-spec : {M : Type 1} → statement M
+triple-at-spec =
+    tie.close
+    (tie.spec
+    returns
+    returns-2
+    returns-3
+    triple-cell-requires
+    returns-4
+    mul-result
+    shared-slice-read-result
+    returns-5)
