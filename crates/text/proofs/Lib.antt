@@ -1,0 +1,6 @@
+-- Laws about the definitions of specs/, for this crate's functions and for the crates above.
+pub mod Lists
+pub mod Split
+pub mod Bytes
+pub mod Spelling
+pub mod Fields

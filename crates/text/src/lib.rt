@@ -1,0 +1,150 @@
+// Bytes, fields and numbers of a text. A field of a line is what stands between two tabs; its number has one to five
+// decimal digits and no leading zero. Nothing here knows what the numbers mean.
+ghost use mathlib.Core.Path.{_≡_};
+ghost use Prim.Native.Nat.{ℕ, _+_, _<_, _≤_};
+ghost use lib.ListN.{length};
+ghost use Rattle.text.specs.Split.{first, split, sameBytes};
+ghost use Rattle.text.specs.Number.{spelled, numberOf, wrong, push, numbersOf};
+ghost use Rattle.text.specs.Digits.{digitsOf};
+
+// The most numbers that a line has behind its word.
+const MOST: usize = 4;
+
+// The number that a field is.
+pub enum Number {
+    Is(u32),
+    Bad,
+}
+
+// The numbers of a run of fields, zeros after them; a count of 0 where the fields are wrong.
+pub struct Numbers {
+    pub count: usize,
+    pub at: [u32; MOST],
+}
+
+// The decimal digits of a number, most significant first, zeros after them.
+pub struct Digits {
+    pub count: usize,
+    pub at: [u8; 5],
+}
+
+// Where the first c of s stands, or the length of s where there is none.
+pub fn find(s: &[u8], c: u8) -> usize
+    ensures { λ r. ⌜ r ≡ length (first c (now (s .entry))) ⌝ }
+{
+    let mut i = 0;
+    while i < s.len() {
+        if s[i] == c {
+            return i;
+        }
+        i += 1;
+    }
+    i
+}
+
+// Whether two slices hold the same bytes.
+pub fn same(a: &[u8], b: &[u8]) -> bool
+    ensures { λ r. ⌜ r ≡ sameBytes (now (a .entry)) (now (b .entry)) ⌝ }
+{
+    let mut i = 0;
+    while i < a.len() {
+        if b.len() <= i {
+            return false;
+        }
+        if a[i] != b[i] {
+            return false;
+        }
+        i += 1;
+    }
+    if b.len() <= i {
+        return true;
+    }
+    false
+}
+
+// The number that at most five digits write.
+fn read_digits(s: &[u8]) -> Number
+    requires { ⌜ length (now s) ≤ 5 ⌝ }
+    ensures { λ r. ⌜ r ≡ spelled 0 (now (s .entry)) ⌝ }
+{
+    let mut v: u32 = 0;
+    let mut i = 0;
+    while i < s.len() {
+        let b = s[i];
+        if b < 48 {
+            return Number::Bad;
+        }
+        if 57 < b {
+            return Number::Bad;
+        }
+        v = v * 10 + (b - 48) as u32;
+        i += 1;
+    }
+    Number::Is(v)
+}
+
+// The number that a whole field is.
+pub fn read_number(s: &[u8]) -> Number
+    ensures { λ r. ⌜ r ≡ numberOf (now (s .entry)) ⌝ }
+{
+    let n = s.len();
+    if n == 0 {
+        return Number::Bad;
+    }
+    if 5 < n {
+        return Number::Bad;
+    }
+    if n == 1 {
+        return read_digits(s);
+    }
+    if s[0] == 48 {
+        return Number::Bad;
+    }
+    read_digits(s)
+}
+
+// The numbers with that of one more field; none where it is no number or there is no room.
+fn push_field(n: Numbers, field: &[u8]) -> Numbers
+    ensures { λ r. ⌜ r ≡ push n (numberOf (now (field .entry))) ⌝ }
+{
+    let v = read_number(field);
+    let Number::Is(x) = v else {
+        return no_numbers();
+    };
+    let k = n.count;
+    if MOST <= k {
+        return no_numbers();
+    }
+    let mut m = n;
+    m.at[k] = x;
+    m.count = k + 1;
+    m
+}
+
+fn no_numbers() -> Numbers
+    ensures { λ r. ⌜ r ≡ wrong ⌝ }
+{
+    Numbers {
+        count: 0,
+        at: [0; MOST],
+    }
+}
+
+// The numbers of the fields of s.
+pub fn read_numbers(s: &[u8]) -> Numbers
+    ensures { λ r. ⌜ r ≡ numbersOf (split 9 (now (s .entry))) ⌝ }
+{
+    let mut n = no_numbers();
+    let mut rest = s;
+    let mut e = find(rest, 9);
+    while e < rest.len() {
+        n = push_field(n, &rest[..e]);
+        if n.count == 0 {
+            return n;
+        }
+        let b = e + 1;
+        rest = &rest[b..];
+        e = find(rest, 9);
+    }
+    push_field(n, rest)
+}
