@@ -4,3 +4,4 @@ pub mod Split
 pub mod Bytes
 pub mod Spelling
 pub mod Fields
+pub mod Decimals

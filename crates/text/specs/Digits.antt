@@ -2,7 +2,7 @@
 use mathlib.Core.List.{List, [], _∷_, _++_}
 use Prim.Native.Nat.{ℕ, zero, suc, _+_, _-_, _/_, _%_}
 use lib.Dec.{ltb}
-use lib.ListN.{length, replicate}
+use lib.ListN.{length, take, replicate}
 use Rattle.text.specs.Split.{pick}
 use Rattle.text.specs.declared.Digits.{Digits}
 
@@ -18,6 +18,10 @@ decimal n = decimalIn 5 n
 -- at most five bytes with their count, and zeros after them
 unfoldable pub written : List ℕ → Digits
 written s = record { count = length s; at = s ++ replicate (5 - length s) 0 }
+
+-- one more byte in front of them
+abbrev pub front : ℕ → Digits → Digits
+front b d = record { count = d .count + 1; at = b ∷ take 4 (d .at) }
 
 -- the digits of a number as the bytes of its record
 abbrev pub digitsOf : ℕ → Digits

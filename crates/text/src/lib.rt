@@ -5,7 +5,7 @@ ghost use Prim.Native.Nat.{ℕ, _+_, _<_, _≤_};
 ghost use lib.ListN.{length};
 ghost use Rattle.text.specs.Split.{first, split, sameBytes};
 ghost use Rattle.text.specs.Number.{spelled, numberOf, wrong, push, numbersOf};
-ghost use Rattle.text.specs.Digits.{digitsOf};
+ghost use Rattle.text.specs.Digits.{front, digitsOf};
 
 // The most numbers that a line has behind its word.
 const MOST: usize = 4;
@@ -147,4 +147,32 @@ pub fn read_numbers(s: &[u8]) -> Numbers
         e = find(rest, 9);
     }
     push_field(n, rest)
+}
+
+// The digits with one more in front of them.
+fn put_first(b: u8, d: Digits) -> Digits
+    requires { ⌜ d .count < 5 ⌝ }
+    ensures { λ r. ⌜ r ≡ front b d ⌝ }
+{
+    let a = d.at;
+    Digits {
+        count: d.count + 1,
+        at: [b, a[0], a[1], a[2], a[3]],
+    }
+}
+
+// The decimal digits of n, taken off from its end.
+pub fn write_number(n: u16) -> Digits
+    ensures { λ r. ⌜ r ≡ digitsOf n ⌝ }
+{
+    let mut d = Digits {
+        count: 0,
+        at: [0; 5],
+    };
+    let mut left = n;
+    while 10 <= left {
+        d = put_first(48 + (left % 10) as u8, d);
+        left = left / 10;
+    }
+    put_first(48 + left as u8, d)
 }
