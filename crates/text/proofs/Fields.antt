@@ -5,15 +5,14 @@ use mathlib.Core.List.{List, [], _∷_}
 use Prim.Native.Nat.{ℕ, _+_, _-_, _<_, _≤_}
 use native.Mathlib.Omega.{arith}
 use lib.Dec.{ltb, eqb}
-use lib.ListN.{length, take, drop, set, length-drop}
+use lib.ListN.{length, take, set}
 use borrow.Author.Tests.{eq-eqb, ne-eqb, eqb-true}
 use Rattle.text.specs.Split.{pick, first, later, split}
 use Rattle.text.specs.Number.{numberOf, most, wrong, push, numbersFrom, numbersOf}
 use Rattle.text.specs.declared.Number.{Number}
 use Rattle.text.specs.declared.Number.the-variants.{Is, Bad}
 use Rattle.text.specs.declared.Numbers.{Numbers}
-use Rattle.text.proofs.Lists.{tail-part}
-use Rattle.text.proofs.Split.{first-piece, later-pieces, no-later, whole-piece}
+use Rattle.text.proofs.Split.{after, after-shorter, first-piece, later-after, no-later, whole-piece}
 
 -- a count of 0 is nothing but wrong
 pub push-none : (n : Numbers) (v : Number) → push n v .count ≡ 0 → push n v ≡ wrong
@@ -48,14 +47,7 @@ pub record Turn (s : List ℕ) (n : Numbers) (rest : List ℕ) (e : ℕ) : Type 
   pub fits : length rest ≤ length s
   pub left : numbersFrom n (split 9 rest) ≡ numbersOf (split 9 s)
 
--- `&l[e + 1..]`
-abbrev rest-after : ℕ → List ℕ → List ℕ
-rest-after e l = take (length l - (e + 1)) (drop (e + 1) l)
-
 module _ {s : List ℕ} {n : Numbers} {l : List ℕ} {e : ℕ} (i : Turn s n l e) where
-  pub shorter : e < length l → length (rest-after e l) < length l
-  shorter h = omega (arith, ap length (tail-part l (e + 1)), length-drop (e + 1) l)
-
   module _ (h : e < length l) {m : Numbers} (p : m ≡ push n (numberOf (take e l))) where
     pieces : m ≡ push n (numberOf (first 9 l))
     pieces = p ∙ ap (λ f. push n (numberOf f)) (first-piece 9 l (i .found))
@@ -63,16 +55,16 @@ module _ {s : List ℕ} {n : Numbers} {l : List ℕ} {e : ℕ} (i : Turn s n l e
     pub turn-stop : m .count ≡ 0 → m ≡ numbersOf (split 9 s)
     turn-stop z = pieces ∙ sym (from-stop n (first 9 l) (later 9 l) (ap (λ x. x .count) (sym pieces) ∙ z)) ∙ i .left
 
-    pub turn-next : (m .count ≡ 0 → ⊥) → {e′ : ℕ} → e′ ≡ length (first 9 (rest-after e l)) → Turn s m (rest-after e l) e′
+    pub turn-next : (m .count ≡ 0 → ⊥) → {e′ : ℕ} → e′ ≡ length (first 9 (after e l)) → Turn s m (after e l) e′
     turn-next z g =
         record {
           found = g;
-          fits = let r = i .fits in omega (arith, shorter h);
+          fits = let r = i .fits in omega (arith, after-shorter e l h);
           left =
-              rw (tail-part l (e + 1)) (ap (λ ps. numbersFrom m ps) (sym (later-pieces 9 l (i .found) h))
+              ap (numbersFrom m) (sym (later-after 9 l (i .found) h))
               ∙ ap (λ x. numbersFrom x (later 9 l)) pieces
               ∙ sym (from-next n (first 9 l) (later 9 l) (λ k. z (ap (λ x. x .count) pieces ∙ k)))
-              ∙ i .left);
+              ∙ i .left;
         }
 
   pub turn-last : length l ≤ e → {m : Numbers} → m ≡ push n (numberOf l) → m ≡ numbersOf (split 9 s)

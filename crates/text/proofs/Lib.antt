@@ -5,3 +5,4 @@ pub mod Bytes
 pub mod Spelling
 pub mod Fields
 pub mod Decimals
+pub mod Back

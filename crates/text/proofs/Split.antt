@@ -3,15 +3,16 @@
 use mathlib.Core.Path.{_≡_, refl, ap, sym, _∙_}
 use mathlib.Core.Bool.{Bool, true, false, not, _&&_}
 use mathlib.Core.List.{List, [], _∷_, _++_}
-use Prim.Native.Nat.{ℕ, zero, suc, _+_, _<_, _≤_, zero-le, suc-le-suc}
+use Prim.Native.Nat.{ℕ, zero, suc, _+_, _-_, _<_, _≤_, zero-le, suc-le-suc}
 use native.Mathlib.Numerals.{add-one}
 use native.Mathlib.Nat.{not-suc-le-zero, le-of-suc-le-suc, le-refl}
+use native.Mathlib.Omega.{arith}
 use lib.Dec.{T, eqb}
-use lib.ListN.{length, getD, take, drop, drop-of-length-le}
+use lib.ListN.{length, getD, take, drop, drop-of-length-le, length-drop}
 use lib.Seq.{take-all}
 use borrow.Author.Tests.{eq-eqb, ne-eqb, eqb-true}
 use Rattle.text.specs.Split.{pick, first, later, split, joined, without, Each}
-use Rattle.text.proofs.Lists.{next}
+use Rattle.text.proofs.Lists.{next, tail-part}
 
 -- how the first piece goes on at i
 module _ (c : ℕ) (s : List ℕ) (i : ℕ) where
@@ -66,6 +67,10 @@ later-none c (b ∷ s) h = go (later-none c s) (eqb b c) h
     go more true h = absurd (not-suc-le-zero h)
     go more false h = more (le-of-suc-le-suc h)
 
+-- `s[e + 1..]`, as the code has it
+abbrev pub after : ℕ → List ℕ → List ℕ
+after e s = take (length s - (e + 1)) (drop (e + 1) s)
+
 -- the parts of s by the place e that find answers
 module _ (c : ℕ) (s : List ℕ) {e : ℕ} (f : e ≡ length (first c s)) where
   pub place-within : e ≤ length s
@@ -75,15 +80,20 @@ module _ (c : ℕ) (s : List ℕ) {e : ℕ} (f : e ≡ length (first c s)) where
   pub first-piece : take e s ≡ first c s
   first-piece = rw f (first-take c s)
 
-  -- `s[e + 1..]`
   pub later-pieces : e < length s → later c s ≡ split c (drop (e + 1) s)
   later-pieces h = rw add-one (rw f (later-drop c s (rw f at h)))
+
+  pub later-after : e < length s → later c s ≡ split c (after e s)
+  later-after h = later-pieces h ∙ ap (split c) (sym (tail-part s (e + 1)))
 
   pub no-later : length s ≤ e → later c s ≡ []
   no-later h = later-none c s (rw f at h)
 
   pub whole-piece : length s ≤ e → first c s ≡ s
   whole-piece h = sym first-piece ∙ take-all e s h
+
+pub after-shorter : (e : ℕ) (s : List ℕ) → e < length s → length (after e s) < length s
+after-shorter e s h = omega (arith, ap length (tail-part s (e + 1)), length-drop (e + 1) s)
 
 -- a list without the separator is its own first piece, and has no other
 pub first-without : (c : ℕ) (s : List ℕ) → T (without c s) → first c s ≡ s

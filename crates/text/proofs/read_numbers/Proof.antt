@@ -2,8 +2,8 @@
 use mathlib.Core.Path.{sym}
 use lib.ListN.{length}
 use lib.Seq.{length-take-le}
-use Rattle.text.proofs.Split.{place-within}
-use Rattle.text.proofs.Fields.{Turn, first-turn, turn-stop, turn-next, turn-last, shorter}
+use Rattle.text.proofs.Split.{place-within, after-shorter}
+use Rattle.text.proofs.Fields.{Turn, first-turn, turn-stop, turn-next, turn-last}
 use borrow.Author.Needs.{needs}
 use Rattle.text.proofs.read_numbers.Statement.{statement}
 use Rattle.text.proofs.read_numbers.Tie as tie
@@ -48,7 +48,9 @@ find-requires-2 : tie.Need-find-requires-2 Inv-loop μ-loop
 find-requires-2 c κs = search needs
 
 loop-less : tie.Need-loop-less Inv-loop μ-loop
-loop-less c = shorter (c .before .before .before .before .before .before .before .loop .inv) (c .before .before .before .before .before .before .loop-test .taken)
+loop-less c =
+    let l = c .before .before .before .before .before .before .before .loop in
+    after-shorter (l .e) (l .rest .now) (c .before .before .before .before .before .before .loop-test .taken)
 
 loop-again : tie.Need-loop-again Inv-loop μ-loop
 loop-again c = turn-next (c .before .before .before .before .before .before .before .loop .inv) (c .before .before .before .before .before .before .loop-test .taken) (c .before .before .before .before .push-field .ensures) (c .before .before .if1 .left) (c .find2 .ensures)
