@@ -1,20 +1,19 @@
 -- What is written is read back: the digits of a number, and the fields of several numbers. Assumes nothing.
 use mathlib.Core.Path.{_≡_, refl, ap, sym, _∙_, subst⁻¹}
-use mathlib.Core.Bool.{Bool, true, false, not}
+use mathlib.Core.Bool.{Bool, true, false}
 use mathlib.Core.List.{List, [], _∷_, _++_, map}
 use mathlib.Core.Logic.{_⊎_, inl, inr, ⊎-elim}
 use Prim.Native.Nat.{ℕ, zero, suc, _+_, _-_, _*_, _/_, _%_, _^_, _<_, _≤_}
 use native.Mathlib.Numerals.{add-one, unary-clauses}
-use native.Mathlib.Nat.{pow-suc, not-suc-le-zero}
+use native.Mathlib.Nat.{pow-suc}
 use native.Mathlib.Omega.{arith}
-use lib.Dec.{T, ltb, eqb, not-T, eqb→eq}
-use lib.ListN.{length, getD, take, drop, set, replicate, length-append, length-replicate, List·getD-append}
+use lib.Dec.{T, ltb, eqb}
+use lib.ListN.{length, getD, drop, set, replicate, length-append, List·getD-append}
 use lib.Seq.{sets, sets-eq}
-use borrow.Author.Tests.{lt-ltb, le-ltb, eq-eqb, ne-eqb, ltb-true, ltb-false}
+use borrow.Author.Tests.{lt-ltb, le-ltb, ne-eqb, ltb-true, ltb-false}
 use Rattle.text.specs.Split.{pick, split, joined, without, Each}
 use Rattle.text.specs.Number.{spelled, numberOf, most, wrong, push, numbersFrom, numbersOf}
 use Rattle.text.specs.Digits.{decimalIn, decimal}
-use Rattle.text.specs.declared.Number.{Number}
 use Rattle.text.specs.declared.Number.the-variants.{Is, Bad}
 use Rattle.text.specs.declared.Numbers.{Numbers}
 use Rattle.text.proofs.Split.{without-append, split-joined}
@@ -141,7 +140,7 @@ drop-zeros zero m = simp unary-clauses
 drop-zeros (suc k) zero = let e : zero - suc k ≡ 0 = omega arith in rw e
 drop-zeros (suc k) (suc m) = simp unary-clauses (drop-zeros k m)
 
--- the numbers of fields that were written from at most four numbers are those numbers
+-- the numbers of fields that were written from at most `most` numbers are those numbers
 pub numbers-back : (vs : List ℕ) → length vs ≤ most → Each (λ v. v < 100000) vs
     → numbersOf (map decimal vs) ≡ record { count = length vs; at = vs ++ replicate (most - length vs) 0 }
 numbers-back vs h k =

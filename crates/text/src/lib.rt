@@ -7,7 +7,7 @@ ghost use Rattle.text.specs.Split.{first, split, sameBytes};
 ghost use Rattle.text.specs.Number.{spelled, numberOf, wrong, push, numbersOf};
 ghost use Rattle.text.specs.Digits.{front, digitsOf};
 
-// The most numbers that a line has behind its word.
+// The most numbers that a run of fields may have.
 const MOST: usize = 4;
 
 // The number that a field is.
@@ -32,14 +32,14 @@ pub struct Digits {
 pub fn find(s: &[u8], c: u8) -> usize
     ensures { λ r. ⌜ r ≡ length (first c (now (s .entry))) ⌝ }
 {
-    let mut i = 0;
-    while i < s.len() {
-        if s[i] == c {
-            return i;
+    let mut at = 0;
+    while at < s.len() {
+        if s[at] == c {
+            return at;
         }
-        i += 1;
+        at += 1;
     }
-    i
+    at
 }
 
 // Whether two slices hold the same bytes.
@@ -71,13 +71,13 @@ fn read_digits(s: &[u8]) -> Number
     let mut i = 0;
     while i < s.len() {
         let b = s[i];
-        if b < 48 {
+        if b < b'0' {
             return Number::Bad;
         }
-        if 57 < b {
+        if b'9' < b {
             return Number::Bad;
         }
-        v = v * 10 + (b - 48) as u32;
+        v = v * 10 + (b - b'0') as u32;
         i += 1;
     }
     Number::Is(v)
@@ -97,30 +97,13 @@ pub fn read_number(s: &[u8]) -> Number
     if n == 1 {
         return read_digits(s);
     }
-    if s[0] == 48 {
+    if s[0] == b'0' {
         return Number::Bad;
     }
     read_digits(s)
 }
 
-// The numbers with that of one more field; none where it is no number or there is no room.
-fn push_field(n: Numbers, field: &[u8]) -> Numbers
-    ensures { λ r. ⌜ r ≡ push n (numberOf (now (field .entry))) ⌝ }
-{
-    let v = read_number(field);
-    let Number::Is(x) = v else {
-        return no_numbers();
-    };
-    let k = n.count;
-    if MOST <= k {
-        return no_numbers();
-    }
-    let mut m = n;
-    m.at[k] = x;
-    m.count = k + 1;
-    m
-}
-
+// No numbers yet, or none that are right.
 fn no_numbers() -> Numbers
     ensures { λ r. ⌜ r ≡ wrong ⌝ }
 {
@@ -130,13 +113,31 @@ fn no_numbers() -> Numbers
     }
 }
 
+// The numbers with that of one more field; none where it is no number or there is no room.
+fn push_field(n: Numbers, field: &[u8]) -> Numbers
+    ensures { λ r. ⌜ r ≡ push n (numberOf (now (field .entry))) ⌝ }
+{
+    let read = read_number(field);
+    let Number::Is(v) = read else {
+        return no_numbers();
+    };
+    let k = n.count;
+    if MOST <= k {
+        return no_numbers();
+    }
+    let mut m = n;
+    m.at[k] = v;
+    m.count = k + 1;
+    m
+}
+
 // The numbers of the fields of s.
 pub fn read_numbers(s: &[u8]) -> Numbers
     ensures { λ r. ⌜ r ≡ numbersOf (split 9 (now (s .entry))) ⌝ }
 {
     let mut n = no_numbers();
     let mut rest = s;
-    let mut e = find(rest, 9);
+    let mut e = find(rest, b'\t');
     while e < rest.len() {
         n = push_field(n, &rest[..e]);
         if n.count == 0 {
@@ -144,7 +145,7 @@ pub fn read_numbers(s: &[u8]) -> Numbers
         }
         let b = e + 1;
         rest = &rest[b..];
-        e = find(rest, 9);
+        e = find(rest, b'\t');
     }
     push_field(n, rest)
 }
@@ -171,8 +172,8 @@ pub fn write_number(n: u16) -> Digits
     };
     let mut left = n;
     while 10 <= left {
-        d = put_first(48 + (left % 10) as u8, d);
+        d = put_first(b'0' + (left % 10) as u8, d);
         left = left / 10;
     }
-    put_first(48 + left as u8, d)
+    put_first(b'0' + left as u8, d)
 }

@@ -11,10 +11,10 @@ use Rattle.text.proofs.find.Statement.{statement}
 use Rattle.text.proofs.find.Tie as tie
 
 abbrev Inv-loop : tie.InvT-loop
-Inv-loop s c i₀ i = (i ≤ length s) × (i + length (first c (drop i s)) ≡ length (first c s))
+Inv-loop s c at₀ at = (at ≤ length s) × (at + length (first c (drop at s)) ≡ length (first c s))
 
 abbrev μ-loop : tie.MeasureT-loop
-μ-loop s c i₀ i = length s - i
+μ-loop s c at₀ at = length s - at
 
 loop-holds : tie.Need-loop-holds Inv-loop μ-loop
 loop-holds c = search needs
@@ -26,10 +26,10 @@ returns : tie.Need-returns Inv-loop μ-loop
 returns c =
     let l = c .before .before .before .loop in
     let a = c .before .before .before .before .args in
-    omega (arith, ap length (first-at (a .c) (a .s .now) (l .i) (omega arith) (c .if1 .taken)))
+    omega (arith, ap length (first-at (a .c) (a .s .now) (l .at) (omega arith) (c .if1 .taken)))
 
-add-i : tie.Need-add-i Inv-loop μ-loop
-add-i c = search needs
+add-at : tie.Need-add-at Inv-loop μ-loop
+add-at c = search needs
 
 loop-less : tie.Need-loop-less Inv-loop μ-loop
 loop-less c = search needs
@@ -38,13 +38,13 @@ loop-again : tie.Need-loop-again Inv-loop μ-loop
 loop-again c =
     let l = c .before .before .before .loop in
     let a = c .before .before .before .before .args in
-    omega (arith, ap length (first-next (a .c) (a .s .now) (l .i) (omega arith) (c .if1 .left)))
+    omega (arith, ap length (first-next (a .c) (a .s .now) (l .at) (omega arith) (c .if1 .left)))
 
 returns-2 : tie.Need-returns-2 Inv-loop μ-loop
 returns-2 c =
     let l = c .before .loop in
     let a = c .before .before .args in
-    omega (arith, ap length (first-end (a .c) (a .s .now) (l .i) (omega arith)))
+    omega (arith, ap length (first-end (a .c) (a .s .now) (l .at) (omega arith)))
 
 pub find-spec : {M : Type 1} → statement M
 find-spec =
@@ -55,7 +55,7 @@ find-spec =
     loop-holds
     shared-slice-read-if1
     returns
-    add-i
+    add-at
     loop-less
     loop-again
     returns-2)

@@ -1,5 +1,4 @@
 -- `push_field` meets its contract: each answer is a case of `push`. Assumes nothing.
-use mathlib.Core.Path.{_≡_, sym, _∙_}
 use borrow.Author.Tests.{lt-ltb, le-ltb}
 use borrow.Author.Needs.{needs}
 use Rattle.text.proofs.push_field.Statement.{statement}
@@ -8,8 +7,8 @@ use Rattle.text.proofs.push_field.Tie as tie
 read-number-requires : tie.Need-read-number-requires
 read-number-requires c κs = search needs
 
-enum-known-v : tie.Need-enum-known-v
-enum-known-v c = search needs
+enum-known-read : tie.Need-enum-known-read
+enum-known-read c = search needs
 
 enum-told : tie.Need-enum-told
 enum-told c = search needs
@@ -25,7 +24,7 @@ no-numbers-requires-2 c κs = search needs
 
 returns-2 : tie.Need-returns-2
 returns-2 c =
-    rw (← c .before .before .before .before .before .read-number .ensures, c .before .before .before .v .given .1, le-ltb _ _ (c .before .if1 .taken))
+    rw (← c .before .before .before .before .before .read-number .ensures, c .before .before .before .read .given .1, le-ltb _ _ (c .before .if1 .taken))
     (c .no-numbers2 .ensures)
 
 mul-m : tie.Need-mul-m
@@ -38,14 +37,14 @@ add-m : tie.Need-add-m
 add-m c = search needs
 
 returns-3 : tie.Need-returns-3
-returns-3 c = rw (← c .before .before .before .before .read-number .ensures, c .before .before .v .given .1, lt-ltb _ _ (c .if1 .left))
+returns-3 c = rw (← c .before .before .before .before .read-number .ensures, c .before .before .read .given .1, lt-ltb _ _ (c .if1 .left))
 
 pub push-field-spec : {M : Type 1} → statement M
 push-field-spec =
     tie.close
     (tie.spec
     read-number-requires
-    enum-known-v
+    enum-known-read
     enum-told
     no-numbers-requires
     returns

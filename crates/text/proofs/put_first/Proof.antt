@@ -3,7 +3,6 @@ use mathlib.Core.Path.{ap}
 use mathlib.Core.List.{_∷_}
 use Prim.Native.Nat.{_+_}
 use Rattle.text.proofs.Decimals.{four}
-use native.Mathlib.Omega.{arith}
 use borrow.Author.Needs.{needs}
 use Rattle.text.proofs.put_first.Statement.{statement}
 use Rattle.text.proofs.put_first.Tie as tie

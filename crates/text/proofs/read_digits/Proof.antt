@@ -1,3 +1,5 @@
+-- `read_digits` meets its contract. The invariant: what is left, read after v, gives what was asked; v has at most i digits.
+-- Assumes nothing.
 use Prim.Native.Nat.{_≤_, _<_, _-_, _^_}
 use mathlib.Core.Path.{_≡_, sym, _∙_}
 use lib.ListN.{length, drop}

@@ -1,3 +1,4 @@
+-- `read_number` meets its contract: each answer is a case of `numberOf`. Assumes nothing.
 use Rattle.text.specs.Number.{numberOf}
 use Rattle.text.proofs.Lists.{tests}
 use borrow.Author.Needs.{needs}
