@@ -8,12 +8,12 @@ use native.Mathlib.Numerals.{add-one, unary-clauses}
 use native.Mathlib.Nat.{pow-suc}
 use native.Mathlib.Omega.{arith}
 use lib.Dec.{T, ltb, eqb}
-use lib.ListN.{length, getD, drop, set, replicate, length-append, List·getD-append}
-use lib.Seq.{sets, sets-eq}
+use lib.ListN.{length, getD, take, drop, set, replicate, length-append, List·getD-append}
+use lib.Seq.{sets, sets-eq, take-append-seam}
 use borrow.Author.Tests.{lt-ltb, le-ltb, ne-eqb, ltb-true, ltb-false}
 use Rattle.text.specs.Split.{pick, split, joined, without, Each}
 use Rattle.text.specs.Number.{spelled, numberOf, most, wrong, push, numbersFrom, numbersOf}
-use Rattle.text.specs.Digits.{decimalIn, decimal}
+use Rattle.text.specs.Digits.{decimalIn, decimal, written, digitsOf}
 use Rattle.text.specs.declared.Number.the-variants.{Is, Bad}
 use Rattle.text.specs.declared.Numbers.{Numbers}
 use Rattle.text.proofs.Split.{without-append, split-joined}
@@ -85,6 +85,11 @@ decimal-short (suc k) n = go (decimal-short k (n / 10)) (ltb n 10)
 -- one to five digits
 pub decimal-length : (n : ℕ) → n < 100000 → (0 < length (decimal n)) × (length (decimal n) ≤ 5)
 decimal-length n h = (decimal-leads n h .0, decimal-short 5 n)
+
+-- the part `d.at[..d.count]` of a written number d is its digits
+pub digits-part : (n : ℕ) → take (digitsOf n .count) (digitsOf n .at) ≡ decimal n
+unfolding written
+digits-part n = take-append-seam (decimal n) (replicate (5 - length (decimal n)) 0)
 
 -- a field that does not begin with 0 is read digit by digit
 number-plain : (s : List ℕ) → 0 < length s → length s ≤ 5 → (getD s 0 0 ≡ 48 → ⊥) → numberOf s ≡ spelled 0 s

@@ -1,4 +1,4 @@
--- How a number's digits go on, how they are written from the last to the first, and that they are read back. Assumes nothing.
+-- How a number's digits go on, and how they are written from the last to the first. Assumes nothing.
 use mathlib.Core.Path.{_≡_, refl, ap, sym, _∙_}
 use mathlib.Core.List.{List, [], _∷_, _++_, append-nil}
 use Prim.Native.Nat.{ℕ, zero, suc, _+_, _-_, _/_, _%_, _^_, _<_, _≤_}
@@ -25,7 +25,7 @@ zeros : (m : ℕ) → take {A = ℕ} m (replicate (suc m) 0) ≡ replicate m 0
 zeros zero = refl
 zeros (suc m) = ap (λ l. 0 ∷ l) (zeros m)
 
-pub fill : (m : ℕ) (t : List ℕ) → length t ≤ m → take m (t ++ replicate (suc m - length t) 0) ≡ t ++ replicate (m - length t) 0
+fill : (m : ℕ) (t : List ℕ) → length t ≤ m → take m (t ++ replicate (suc m - length t) 0) ≡ t ++ replicate (m - length t) 0
 fill m [] h = simp unary-clauses (zeros m)
 fill zero (b ∷ t) h = absurd (not-suc-le-zero h)
 fill (suc m) (b ∷ t) h = simp unary-clauses (ap (λ l. b ∷ l) (fill m t (le-of-suc-le-suc h)))
@@ -38,7 +38,8 @@ four (a ∷ b ∷ []) h = absurd (omega arith)
 four (a ∷ b ∷ c ∷ []) h = absurd (omega arith)
 four (a ∷ b ∷ c ∷ d ∷ l) h = refl
 
-pub front-written : (b : ℕ) (t : List ℕ) → length t < 5 → front b (written t) ≡ written (b ∷ t)
+-- a byte in front of those that are written
+front-written : (b : ℕ) (t : List ℕ) → length t < 5 → front b (written t) ≡ written (b ∷ t)
 unfolding written
 front-written b t h =
     let e : 4 - length t ≡ 5 - suc (length t) = omega arith in

@@ -6,3 +6,4 @@ pub mod Spelling
 pub mod Fields
 pub mod Decimals
 pub mod Back
+pub mod Cases
