@@ -39,6 +39,6 @@ unfoldable pub numbersFrom : Numbers → List (List ℕ) → Numbers
 numbersFrom n [] = n
 numbersFrom n (f ∷ fs) = pick (eqb (push n (numberOf f) .count) 0) wrong (numbersFrom (push n (numberOf f)) fs)
 
--- the numbers of one to four fields in order, and zeros after them
+-- the numbers of the fields in order, `most` at the most, and zeros after them
 abbrev pub numbersOf : List (List ℕ) → Numbers
 numbersOf fs = numbersFrom wrong fs
