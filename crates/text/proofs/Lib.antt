@@ -1,0 +1,9 @@
+-- Laws about the definitions of specs/, for this crate's functions and for the crates above. Assumes nothing.
+pub mod Lists
+pub mod Split
+pub mod Bytes
+pub mod Spelling
+pub mod Fields
+pub mod Decimals
+pub mod Back
+pub mod Cases
