@@ -5,8 +5,14 @@ use Rattle.table.proofs.Cells.{head-inside, read-past, read-cell}
 use Rattle.table.proofs.head_at.Statement.{statement}
 use Rattle.table.proofs.head_at.Tie as tie
 
+cast-if1 : tie.Need-cast-if1
+cast-if1 c = search needs
+
 returns : tie.Need-returns
 returns c = search tests
+
+cast-if2 : tie.Need-cast-if2
+cast-if2 c = search needs
 
 returns-2 : tie.Need-returns-2
 returns-2 c = search tests
@@ -30,7 +36,9 @@ pub head-at-spec : {M : Type 1} → statement M
 head-at-spec =
     tie.close
     (tie.spec
+    cast-if1
     returns
+    cast-if2
     returns-2
     head-cell-requires
     returns-3

@@ -5,11 +5,20 @@ use Rattle.table.proofs.Cells.{triple-inside, put-past, put-cell}
 use Rattle.table.proofs.put_triple.Statement.{statement}
 use Rattle.table.proofs.put_triple.Tie as tie
 
+cast-if1 : tie.Need-cast-if1
+cast-if1 c = search needs
+
 returns : tie.Need-returns
 returns c = search tests
 
+cast-if2 : tie.Need-cast-if2
+cast-if2 c = search needs
+
 returns-2 : tie.Need-returns-2
 returns-2 c = search tests
+
+cast-if3 : tie.Need-cast-if3
+cast-if3 c = search needs
 
 returns-3 : tie.Need-returns-3
 returns-3 c = search tests
@@ -36,8 +45,11 @@ pub put-triple-spec : {M : Type 1} → statement M
 put-triple-spec =
     tie.close
     (tie.spec
+    cast-if1
     returns
+    cast-if2
     returns-2
+    cast-if3
     returns-3
     triple-cell-requires
     returns-4

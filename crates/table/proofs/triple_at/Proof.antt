@@ -5,11 +5,20 @@ use Rattle.table.proofs.Cells.{triple-inside, read-past, read-cell}
 use Rattle.table.proofs.triple_at.Statement.{statement}
 use Rattle.table.proofs.triple_at.Tie as tie
 
+cast-if1 : tie.Need-cast-if1
+cast-if1 c = search needs
+
 returns : tie.Need-returns
 returns c = search tests
 
+cast-if2 : tie.Need-cast-if2
+cast-if2 c = search needs
+
 returns-2 : tie.Need-returns-2
 returns-2 c = search tests
+
+cast-if3 : tie.Need-cast-if3
+cast-if3 c = search needs
 
 returns-3 : tie.Need-returns-3
 returns-3 c = search tests
@@ -33,8 +42,11 @@ pub triple-at-spec : {M : Type 1} → statement M
 triple-at-spec =
     tie.close
     (tie.spec
+    cast-if1
     returns
+    cast-if2
     returns-2
+    cast-if3
     returns-3
     triple-cell-requires
     returns-4
