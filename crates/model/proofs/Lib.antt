@@ -1,3 +1,8 @@
 pub mod Steps
+pub mod Rows
+pub mod Answers
 pub mod Valid
+pub mod Bounds
+pub mod Tested
+pub mod Counted
 pub mod Cases

@@ -1,5 +1,6 @@
 -- What a valid model record has: its counts within their sizes, and a product in range. Assumes nothing.
 use mathlib.Core.Bool.{Bool, _&&_}
+use mathlib.Core.List.{List, _∷_}
 use mathlib.Core.Path.{subst}
 use Prim.Native.Nat.{ℕ, _<_, _≤_}
 use lib.Dec.{T, leb, ltb, leb→le, ltb→lt}
@@ -8,12 +9,15 @@ use Rattle.product.specs.Product.{symbol, pushed, InRange}
 use Rattle.product.proofs.Lists.{and-left, and-right, in-upTo, All-of, All-at}
 use Rattle.model.specs.declared.Model.{Model}
 use Rattle.model.specs.Model.{inRow, rule, move, productOf}
-use Rattle.model.specs.Valid.{sizesIn, startIn, ruleIn, moveIn, valid}
+use Rattle.model.specs.Valid.{within, sizesIn, startIn, symbolsIn, ruleIn, moveIn, valid}
 use Rattle.model.proofs.Steps.{next-is}
 
 -- a test that every number below n passes
-all-below : (p : ℕ → Bool) (n : ℕ) → T (all p (upTo n)) → (i : ℕ) → i < n → T (p i)
+pub all-below : (p : ℕ → Bool) (n : ℕ) → T (all p (upTo n)) → (i : ℕ) → i < n → T (p i)
 all-below p n t i l = All-at (λ i. T (p i)) (upTo n) (All-of (λ i. T (p i)) p (λ _ x. x) (upTo n) t) i (in-upTo n i l)
+
+is-within : (low high n : ℕ) → T (within low high n) → (low ≤ n) × (n ≤ high)
+is-within low high n t = (leb→le low n (and-left (leb low n) (leb n high) t), leb→le n high (and-right (leb low n) (leb n high) t))
 
 pub record Sizes (m : Model) : Type 0 where
   pub some-symbol : 1 ≤ m .symbols
@@ -32,38 +36,44 @@ module _ (m : Model) (t : T (valid m)) where
   abbrev movesIn : Bool
   movesIn = all (moveIn m) (upTo (m .moves))
 
-  sized-started : T (sizesIn m && startIn m && rulesIn)
+  abbrev sized : Bool
+  sized = sizesIn (m .symbols) (m .states) (m .events) (m .rules) (m .moves)
+
+  sized-started : T (sized && startIn m && rulesIn)
   unfolding valid
-  sized-started = and-left (sizesIn m && startIn m && rulesIn) movesIn t
+  sized-started = and-left (sized && startIn m && rulesIn) movesIn t
 
   started : T (startIn m)
-  started = and-right (sizesIn m) (startIn m) (and-left (sizesIn m && startIn m) rulesIn sized-started)
+  started = and-right sized (startIn m) (and-left (sized && startIn m) rulesIn sized-started)
 
   pub valid-rule : (r : ℕ) → r < m .rules → T (ruleIn m r)
-  valid-rule = all-below (ruleIn m) (m .rules) (and-right (sizesIn m && startIn m) rulesIn sized-started)
+  valid-rule = all-below (ruleIn m) (m .rules) (and-right (sized && startIn m) rulesIn sized-started)
 
   pub valid-move : (v : ℕ) → v < m .moves → T (moveIn m v)
   unfolding valid
-  valid-move = all-below (moveIn m) (m .moves) (and-right (sizesIn m && startIn m && rulesIn) movesIn t)
+  valid-move = all-below (moveIn m) (m .moves) (and-right (sized && startIn m && rulesIn) movesIn t)
 
   pub valid-sizes : Sizes m
   valid-sizes =
-      let G : Bool = leb 1 (m .symbols) && leb (m .symbols) 32 in
-      let Q : Bool = leb 1 (m .states) && leb (m .states) 8 in
-      let E : Bool = leb 1 (m .events) && leb (m .events) 16 in
+      let G : Bool = within 1 32 (m .symbols) in
+      let Q : Bool = within 1 8 (m .states) in
+      let E : Bool = within 1 16 (m .events) in
       let R : Bool = leb (m .rules) 256 in
       let M : Bool = leb (m .moves) 128 in
-      let s : T (sizesIn m) = and-left (sizesIn m) (startIn m) (and-left (sizesIn m && startIn m) rulesIn sized-started) in
+      let s : T sized = and-left sized (startIn m) (and-left (sized && startIn m) rulesIn sized-started) in
       let r : T (G && Q && E && R) = and-left (G && Q && E && R) M s in
       let e : T (G && Q && E) = and-left (G && Q && E) R r in
       let q : T (G && Q) = and-left (G && Q) E e in
+      let (g1, g2) = is-within 1 32 (m .symbols) (and-left G Q q) in
+      let (q1, q2) = is-within 1 8 (m .states) (and-right G Q q) in
+      let (e1, e2) = is-within 1 16 (m .events) (and-right (G && Q) E e) in
       record {
-        some-symbol = leb→le 1 (m .symbols) (and-left (leb 1 (m .symbols)) (leb (m .symbols) 32) (and-left G Q q));
-        symbols = leb→le (m .symbols) 32 (and-right (leb 1 (m .symbols)) (leb (m .symbols) 32) (and-left G Q q));
-        some-state = leb→le 1 (m .states) (and-left (leb 1 (m .states)) (leb (m .states) 8) (and-right G Q q));
-        states = leb→le (m .states) 8 (and-right (leb 1 (m .states)) (leb (m .states) 8) (and-right G Q q));
-        some-event = leb→le 1 (m .events) (and-left (leb 1 (m .events)) (leb (m .events) 16) (and-right (G && Q) E e));
-        events = leb→le (m .events) 16 (and-right (leb 1 (m .events)) (leb (m .events) 16) (and-right (G && Q) E e));
+        some-symbol = g1;
+        symbols = g2;
+        some-state = q1;
+        states = q2;
+        some-event = e1;
+        events = e2;
         rules = leb→le (m .rules) 256 (and-right (G && Q && E) R r);
         moves = leb→le (m .moves) 128 (and-right (G && Q && E && R) M s);
       }
@@ -74,12 +84,8 @@ module _ (m : Model) (t : T (valid m)) where
     symbol-in = ltb→lt (m .startsymbol) (m .symbols) (and-right (ltb (m .startstate) (m .states)) (ltb (m .startsymbol) (m .symbols)) started);
     rules-in = λ r l.
         let k : Bool = leb (inRow 4 (m .rulerows) r 0) 2 in
-        let g : Bool = ltb (symbol (rule m r)) (m .symbols) in
-        let a : Bool = all (λ g. ltb g (m .symbols)) (pushed (rule m r)) in
-        let u : T (k && g && a) = valid-rule r l in (
-          ltb→lt (symbol (rule m r)) (m .symbols) (and-right k g (and-left (k && g) a u)),
-          All-of (λ g. g < m .symbols) (λ g. ltb g (m .symbols)) (λ g x. ltb→lt g (m .symbols) x) (pushed (rule m r)) (and-right (k && g) a u),
-        );
+        let gs : List ℕ = symbol (rule m r) ∷ pushed (rule m r) in
+        All-of (λ g. g < m .symbols) (λ g. ltb g (m .symbols)) (λ g x. ltb→lt g (m .symbols) x) gs (and-right k (symbolsIn (m .symbols) (rule m r)) (valid-rule r l));
     steps-in = λ s q q′ e.
         let (h, i) = next-is m s q q′ e in
         let v : ℕ = s .by-move in

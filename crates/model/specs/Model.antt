@@ -10,6 +10,7 @@ use Rattle.product.specs.Lists.{upTo}
 use Rattle.product.specs.Product.{Rule, exit, direct, call, symbol, pushed, Step, Product}
 use Rattle.product.specs.Runs.{State}
 use Rattle.model.specs.declared.Model.{Model}
+use Rattle.model.specs.declared.Move.{Move}
 
 -- number i of row r, in rows of w numbers
 abbrev pub inRow : (w : ℕ) → List ℕ → (r i : ℕ) → ℕ
@@ -21,11 +22,6 @@ ruleBy kind g g1 g2 = cond (eqb kind 0) (exit g) (cond (eqb kind 1) (direct g g1
 
 abbrev pub ruleAt : (rows : List ℕ) → ℕ → Rule
 ruleAt rows r = ruleBy (inRow 4 rows r 0) (inRow 4 rows r 1) (inRow 4 rows r 2) (inRow 4 rows r 3)
-
-pub record Move : Type 0 where
-  pub source : ℕ
-  pub event : ℕ
-  pub target : ℕ
 
 abbrev pub moveAt : (rows : List ℕ) → ℕ → Move
 moveAt rows v = record { source = inRow 3 rows v 0; event = inRow 3 rows v 1; target = inRow 3 rows v 2 }

@@ -15,3 +15,30 @@ pub struct Model {
     pub moves: usize,
     pub moverows: [u8; 384],
 }
+
+// A rule: g to nothing; g to g1; g to g1 on top of g2.
+pub enum Rule {
+    Exit(usize),
+    Direct(usize, usize),
+    Call(usize, usize, usize),
+}
+
+// A property move, from a state by an event to a state.
+pub struct Move {
+    pub source: usize,
+    pub event: usize,
+    pub target: usize,
+}
+
+// The property state after a step, or none, where rule and move make no step.
+pub enum Next {
+    To(usize),
+    Stuck,
+}
+
+mod step; // the rule of a row, and the step that a rule and a move make
+mod range; // which records are valid
+
+pub use range::is_valid;
+pub use step::next_state;
+pub use step::rule_at;
