@@ -96,11 +96,11 @@ pub fn next_state<'a>(
 {
     let by = move_at(moverows, v);
     if by.source != q {
-        return Next::Stuck;
+        return Next::Stuck; // the move starts elsewhere
     }
     let g = symbol(rule_at(rulerows, r));
     if !shows_at(shows, g, by.event) {
-        return Next::Stuck;
+        return Next::Stuck; // the symbol does not show the event
     }
     Next::To(by.target)
 }
