@@ -4,7 +4,7 @@ use mathlib.Core.List.{List, _∷_}
 use mathlib.Core.Path.{subst}
 use Prim.Native.Nat.{ℕ, _<_, _≤_}
 use lib.Dec.{T, leb, ltb, leb→le, ltb→lt}
-use Rattle.product.specs.Lists.{upTo, all, All, _∈_}
+use Rattle.product.specs.Lists.{upTo, all, _∈_}
 use Rattle.product.specs.Product.{symbol, pushed, InRange}
 use Rattle.product.proofs.Lists.{and-left, and-right, in-upTo, All-of, All-at}
 use Rattle.model.specs.declared.Model.{Model}
