@@ -5,4 +5,3 @@ pub mod Valid
 pub mod Bounds
 pub mod Tested
 pub mod Counted
-pub mod Cases

@@ -1,4 +1,3 @@
 pub mod Model
 pub mod Answers
 pub mod Valid
-pub mod Cases
