@@ -125,7 +125,7 @@ def check_paper():
     expect("paper's figure", {fact for fact in whole if len(fact) == 3}, figure)
     expect("17 triples", len(figure), 17)
     kind, rounds, _, _, steps = second.trace(model_of(generate.PAPER), 54, 4096)
-    # W2 of the paper's section 4: m0, s0 m1, s1 m1, s0 s3 m1, s2 s3 m1, s4 s3 m1, s3 m1, s4 m1 in q1
+    # m0, s0 m1, s1 m1, s0 s3 m1, s2 s3 m1, s4 s3 m1, s3 m1, and in q1 s4 m1
     expect("paper's trace", (kind, rounds, [s // 128 for s in steps]), ("violation", 5, [0, 2, 4, 3, 6, 7, 5]))
 
 
