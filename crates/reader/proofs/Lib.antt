@@ -1,0 +1,3 @@
+-- Laws about the definitions of specs/. Assumes nothing.
+pub mod Tested
+pub mod Turns
