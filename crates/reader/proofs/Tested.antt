@@ -33,35 +33,50 @@ tests-passed d (t ∷ ts) after n e =
     go more some true h e = absurd (omega (arith, ltb-true 0 (t .number) some))
     go more some false h e = let (a, p) = more e in ((h, a), p)
 
-pub passed : (d : Draft) (x : Effect) → T (refusals (x .tests)) → taken d x .refusal ≡ 0 → All (λ t. t .holds ≡ false) (x .tests) × (taken d x .draft ≡ x .after)
-passed d x = tests-passed d (x .tests) (x .after)
+all-refusals : (d : Draft) (w : Word) (a : List ℕ) → T (refusals (effect d w a .tests))
+all-refusals d Size a = tt
+all-refusals d Start a = tt
+all-refusals d Final a = tt
+all-refusals d Event a = tt
+all-refusals d Exit a = tt
+all-refusals d Direct a = tt
+all-refusals d Call a = tt
+all-refusals d Move a = tt
+all-refusals d Safe a = tt
+all-refusals d Head a = tt
+all-refusals d Erase a = tt
+all-refusals d Malformed a = tt
+
+-- every test failed
+abbrev pub Passed : Effect → Type 0
+Passed x = All (λ t. t .holds ≡ false) (x .tests)
+
+pub passed : (d : Draft) (w : Word) (a : List ℕ) → taken d (effect d w a) .refusal ≡ 0 → Passed (effect d w a) × (taken d (effect d w a) .draft ≡ effect d w a .after)
+passed d w a = tests-passed d (effect d w a .tests) (effect d w a .after) (all-refusals d w a)
 
 -- the sizes before the first line, and after a line that is taken
 pub sized-fresh : Sized fresh
 unfolding empty
 sized-fresh = record { symbols = omega arith; states = omega arith; events = omega arith }
 
-sized-word : (d : Draft) (w : Word) (a : List ℕ) → Sized d → taken d (effect d w a) .refusal ≡ 0 → Sized (taken d (effect d w a) .draft)
-sized-word d Size a s e =
-    let (t, p) = passed d (effect d Size a) tt e in
-    rw p
-    (record {
-      symbols = ltb-false 32 _ (t .1 .1 .0);
-      states = ltb-false 8 _ (t .1 .1 .1 .1 .0);
-      events = ltb-false 16 _ (t .1 .1 .1 .1 .1 .1 .0);
-    })
-sized-word d Start a s e = rw (passed d (effect d Start a) tt e .1) (record { symbols = s .symbols; states = s .states; events = s .events })
-sized-word d Final a s e = rw (passed d (effect d Final a) tt e .1) (record { symbols = s .symbols; states = s .states; events = s .events })
-sized-word d Event a s e = rw (passed d (effect d Event a) tt e .1) (record { symbols = s .symbols; states = s .states; events = s .events })
-sized-word d Exit a s e = rw (passed d (effect d Exit a) tt e .1) (record { symbols = s .symbols; states = s .states; events = s .events })
-sized-word d Direct a s e = rw (passed d (effect d Direct a) tt e .1) (record { symbols = s .symbols; states = s .states; events = s .events })
-sized-word d Call a s e = rw (passed d (effect d Call a) tt e .1) (record { symbols = s .symbols; states = s .states; events = s .events })
-sized-word d Move a s e = rw (passed d (effect d Move a) tt e .1) (record { symbols = s .symbols; states = s .states; events = s .events })
-sized-word d Safe a s e = s
-sized-word d Head a s e = s
-sized-word d Erase a s e = s
-sized-word d Malformed a s e = s
+sized-word : (d : Draft) (w : Word) (a : List ℕ) → Sized d → Passed (effect d w a) → Sized (effect d w a .after)
+sized-word d Size a s t = record {
+  symbols = ltb-false 32 _ (t .1 .1 .0);
+  states = ltb-false 8 _ (t .1 .1 .1 .1 .0);
+  events = ltb-false 16 _ (t .1 .1 .1 .1 .1 .1 .0);
+}
+sized-word d Start a s t = record { symbols = s .symbols; states = s .states; events = s .events }
+sized-word d Final a s t = record { symbols = s .symbols; states = s .states; events = s .events }
+sized-word d Event a s t = record { symbols = s .symbols; states = s .states; events = s .events }
+sized-word d Exit a s t = record { symbols = s .symbols; states = s .states; events = s .events }
+sized-word d Direct a s t = record { symbols = s .symbols; states = s .states; events = s .events }
+sized-word d Call a s t = record { symbols = s .symbols; states = s .states; events = s .events }
+sized-word d Move a s t = record { symbols = s .symbols; states = s .states; events = s .events }
+sized-word d Safe a s t = s
+sized-word d Head a s t = s
+sized-word d Erase a s t = s
+sized-word d Malformed a s t = s
 
 pub sized-next : {d : Draft} (l : Line) {t : Taken} → t ≡ takeLine d l → Sized d → t .refusal ≡ 0 → Sized (t .draft)
 unfolding takeLine
-sized-next {d} l p s e = rw p (sized-word d (l .word) (l .numbers .at) s (rw p at e))
+sized-next {d} l p s e = let (t, q) = passed d (l .word) (l .numbers .at) (rw p at e) in rw (p, q) (sized-word d (l .word) (l .numbers .at) s t)

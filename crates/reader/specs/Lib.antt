@@ -2,3 +2,4 @@
 pub mod Reading
 pub mod Lines
 pub mod Text
+pub mod Says
