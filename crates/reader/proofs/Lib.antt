@@ -1,0 +1,8 @@
+-- Laws about the definitions of specs/. Assumes nothing.
+pub mod Tested
+pub mod Turns
+pub mod Rows
+pub mod Good
+pub mod Steps
+pub mod Accepted
+pub mod Numbers

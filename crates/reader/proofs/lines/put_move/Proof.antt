@@ -1,0 +1,106 @@
+-- `reader::lines::put_move` meets its contract: each return is one of the tests, in order. Assumes nothing.
+use Rattle.text.proofs.Lists.{tests}
+use borrow.Author.Needs.{needs}
+use Rattle.reader.proofs.lines.put_move.Statement.{statement}
+use Rattle.reader.proofs.lines.put_move.Tie as tie
+
+refuse-requires : tie.Need-refuse-requires
+refuse-requires c κs = search needs
+
+returns : tie.Need-returns
+returns c = search tests
+
+cast-if2 : tie.Need-cast-if2
+cast-if2 c = search needs
+
+refuse-requires-2 : tie.Need-refuse-requires-2
+refuse-requires-2 c κs = search needs
+
+returns-2 : tie.Need-returns-2
+returns-2 c = search tests
+
+cast-if3 : tie.Need-cast-if3
+cast-if3 c = search needs
+
+refuse-requires-3 : tie.Need-refuse-requires-3
+refuse-requires-3 c κs = search needs
+
+returns-3 : tie.Need-returns-3
+returns-3 c = search tests
+
+cast-if4 : tie.Need-cast-if4
+cast-if4 c = search needs
+
+refuse-requires-4 : tie.Need-refuse-requires-4
+refuse-requires-4 c κs = search needs
+
+returns-4 : tie.Need-returns-4
+returns-4 c = search tests
+
+refuse-requires-5 : tie.Need-refuse-requires-5
+refuse-requires-5 c κs = search needs
+
+returns-5 : tie.Need-returns-5
+returns-5 c = search tests
+
+mul-i : tie.Need-mul-i
+mul-i c = search needs
+
+cast-m : tie.Need-cast-m
+cast-m c = search needs
+
+element-write-m : tie.Need-element-write-m
+element-write-m c = search needs
+
+cast-m-2 : tie.Need-cast-m-2
+cast-m-2 c = search needs
+
+add-m : tie.Need-add-m
+add-m c = search needs
+
+element-write-m-2 : tie.Need-element-write-m-2
+element-write-m-2 c = search needs
+
+cast-m-3 : tie.Need-cast-m-3
+cast-m-3 c = search needs
+
+add-m-2 : tie.Need-add-m-2
+add-m-2 c = search needs
+
+element-write-m-3 : tie.Need-element-write-m-3
+element-write-m-3 c = search needs
+
+add-m-3 : tie.Need-add-m-3
+add-m-3 c = search needs
+
+returns-6 : tie.Need-returns-6
+returns-6 c = search tests
+
+pub put-move-spec : {M : Type 1} → statement M
+put-move-spec =
+    tie.close
+    (tie.spec
+    refuse-requires
+    returns
+    cast-if2
+    refuse-requires-2
+    returns-2
+    cast-if3
+    refuse-requires-3
+    returns-3
+    cast-if4
+    refuse-requires-4
+    returns-4
+    refuse-requires-5
+    returns-5
+    mul-i
+    cast-m
+    element-write-m
+    cast-m-2
+    add-m
+    element-write-m-2
+    cast-m-3
+    add-m-2
+    element-write-m-3
+    add-m-3
+    returns-6)

@@ -1,0 +1,84 @@
+-- What the lines of a model text say, gathered by kind, and when a record says exactly that. Assumes nothing.
+use mathlib.Core.Bool.{Bool, _&&_, _||_}
+use mathlib.Core.List.{List, [], _∷_, _++_}
+use mathlib.Core.Path.{_≡_}
+use Prim.Native.Nat.{ℕ, _<_}
+use lib.Dec.{eqb}
+use lib.ListN.{getD}
+use Rattle.text.specs.Split.{first, later, split}
+use Rattle.line.specs.declared.Line.{Line}
+use Rattle.line.specs.declared.Word.{Word}
+use Rattle.line.specs.declared.Word.the-variants.{Size, Start, Final, Event, Exit, Direct, Call, Move, Safe, Head, Erase, Malformed}
+use Rattle.line.specs.Line.{lineOf}
+use Rattle.product.specs.Lists.{upTo, each, any}
+use Rattle.product.specs.Product.{Rule, exit, direct, call}
+use Rattle.model.specs.declared.Move as declared
+use Rattle.model.specs.declared.Model.{Model}
+use Rattle.model.specs.Model.{rule, move, shown, final}
+
+-- of each kind what was said, in the order of the lines
+pub record Said : Type 0 where
+  pub sizes : List (ℕ × ℕ × ℕ)
+  pub starts : List (ℕ × ℕ)
+  pub finals : List ℕ
+  pub events : List (ℕ × ℕ)
+  pub rules : List Rule
+  pub moves : List declared.Move
+
+abbrev pub nothing : Said
+nothing = record { sizes = []; starts = []; finals = []; events = []; rules = []; moves = [] }
+
+abbrev pub addSize : Said → (g q e : ℕ) → Said
+addSize s g q e = record { sizes = s .sizes ++ (g, q, e) ∷ []; starts = s .starts; finals = s .finals; events = s .events; rules = s .rules; moves = s .moves }
+
+abbrev pub addStart : Said → (q g : ℕ) → Said
+addStart s q g = record { sizes = s .sizes; starts = s .starts ++ (q, g) ∷ []; finals = s .finals; events = s .events; rules = s .rules; moves = s .moves }
+
+abbrev pub addFinal : Said → ℕ → Said
+addFinal s q = record { sizes = s .sizes; starts = s .starts; finals = s .finals ++ q ∷ []; events = s .events; rules = s .rules; moves = s .moves }
+
+abbrev pub addEvent : Said → (g e : ℕ) → Said
+addEvent s g e = record { sizes = s .sizes; starts = s .starts; finals = s .finals; events = s .events ++ (g, e) ∷ []; rules = s .rules; moves = s .moves }
+
+abbrev pub addRule : Said → Rule → Said
+addRule s ρ = record { sizes = s .sizes; starts = s .starts; finals = s .finals; events = s .events; rules = s .rules ++ ρ ∷ []; moves = s .moves }
+
+abbrev pub addMove : Said → declared.Move → Said
+addMove s μ = record { sizes = s .sizes; starts = s .starts; finals = s .finals; events = s .events; rules = s .rules; moves = s .moves ++ μ ∷ [] }
+
+-- one more line, by its word and its numbers
+abbrev pub more : Said → Word → List ℕ → Said
+more s Size a = addSize s (getD a 0 0) (getD a 1 0) (getD a 2 0)
+more s Start a = addStart s (getD a 0 0) (getD a 1 0)
+more s Final a = addFinal s (getD a 0 0)
+more s Event a = addEvent s (getD a 0 0) (getD a 1 0)
+more s Exit a = addRule s (exit (getD a 0 0))
+more s Direct a = addRule s (direct (getD a 0 0) (getD a 1 0))
+more s Call a = addRule s (call (getD a 0 0) (getD a 1 0) (getD a 2 0))
+more s Move a = addMove s (record { source = getD a 0 0; event = getD a 1 0; target = getD a 2 0 })
+more s Safe a = s
+more s Head a = s
+more s Erase a = s
+more s Malformed a = s
+
+abbrev pub andLine : Said → Line → Said
+andLine s l = more s (l .word) (l .numbers .at)
+
+-- the pieces between line feeds, of which all but the last are lines
+abbrev pub gathered : Said → List ℕ → List (List ℕ) → Said
+gathered s l [] = s
+gathered s l (k ∷ ls) = gathered (andLine s (lineOf (split 9 l))) k ls
+
+-- what the lines of a text say
+unfoldable pub said : List ℕ → Said
+said s = gathered nothing (first 10 s) (later 10 s)
+
+-- Exactly that: one size, one start; a state is final if some line says so, and a symbol shows an event if it is event 0 or some line says so; the rules
+-- and the moves, each in the order of the lines. Events are numbers below 16.
+pub record Says (s : Said) (m : Model) : Type 0 where
+  pub sized : s .sizes ≡ (m .symbols, m .states, m .events) ∷ []
+  pub started : s .starts ≡ (m .startstate, m .startsymbol) ∷ []
+  pub finals : (q : ℕ) → final m q ≡ any (eqb q) (s .finals)
+  pub events : (g e : ℕ) → e < 16 → shown m g e ≡ (eqb e 0 || any (λ x. eqb g (x .0) && eqb e (x .1)) (s .events))
+  pub rules : each (upTo (m .rules)) (rule m) ≡ s .rules
+  pub moves : each (upTo (m .moves)) (move m) ≡ s .moves

@@ -1,0 +1,138 @@
+// Reads a model from its text. specs/Text.antt says what is read, and specs/Says.antt what an accepted record holds.
+ghost use mathlib.Core.Path.{_≡_};
+ghost use Prim.Native.Nat.{ℕ, _≤_};
+ghost use lib.ListN.{length};
+ghost use Rattle.text.specs.Split.{first, later};
+ghost use Rattle.reader.specs.Reading.{empty, numbered, refused};
+ghost use Rattle.reader.specs.Lines.{fresh};
+ghost use Rattle.reader.specs.Text.{readFrom, readModel};
+use model::Model;
+
+mod lines; // what a line does to the model as far as it is read
+
+use lines::take_line;
+
+// The longest text that is read.
+const LONGEST: usize = 16384;
+
+// How a reading ends: with the number of the line that is refused, from 1, and 0 where no line is.
+pub enum Reading {
+    Accepted,
+    TooLong,
+    Malformed(usize),
+    Misplaced(usize),
+    OutOfRange(usize),
+    TooMany(usize),
+}
+
+// The model of an accepted reading; of any other the empty record.
+pub struct ModelRead {
+    pub reading: Reading,
+    pub model: Model,
+}
+
+// The model as far as it is read; `started` is 1 from the start line on. Before the size line there are no symbols.
+pub struct Draft {
+    pub started: u8,
+    pub model: Model,
+}
+
+// What a line does: a refusal's number, or 0 and the draft after it.
+pub struct Taken {
+    pub refusal: u8,
+    pub draft: Draft,
+}
+
+fn no_model() -> Model
+    ensures { λ r. ⌜ r ≡ empty ⌝ }
+{
+    let finals = [false; 8];
+    let shows = [false; 512];
+    let rulerows = [0u8; 1024];
+    let moverows = [0u8; 384];
+    Model {
+        symbols: 0,
+        states: 0,
+        events: 0,
+        startstate: 0,
+        startsymbol: 0,
+        finals,
+        shows,
+        rules: 0,
+        rulerows,
+        moves: 0,
+        moverows,
+    }
+}
+
+fn refused_with(reading: Reading) -> ModelRead
+    ensures { λ r. ⌜ r ≡ refused reading ⌝ }
+{
+    let model = no_model();
+    ModelRead { reading, model }
+}
+
+// The refusals of a line by their number.
+fn numbered(n: u8, line: usize) -> Reading
+    ensures { λ r. ⌜ r ≡ numbered n line ⌝ }
+{
+    if n == 2 {
+        return Reading::Malformed(line);
+    }
+    if n == 3 {
+        return Reading::Misplaced(line);
+    }
+    if n == 4 {
+        return Reading::OutOfRange(line);
+    }
+    Reading::TooMany(line)
+}
+
+// Line by line: what stands after the last line feed is no line, and must be empty.
+fn read_lines(text: &[u8]) -> ModelRead
+    requires { ⌜ length (now text) ≤ 16384 ⌝ }
+    ensures { λ r. ⌜ r ≡ readFrom 1 fresh (first 10 (now (text .entry))) (later 10 (now (text .entry))) ⌝ }
+{
+    let m = no_model();
+    let mut d = Draft {
+        started: 0,
+        model: m,
+    };
+    let mut rest = text;
+    let mut n: usize = 1;
+    let mut e = text::find(rest, b'\n');
+    while e < rest.len() {
+        let l = line::read_line(&rest[..e]);
+        let t = take_line(d, l);
+        let refusal = t.refusal;
+        if refusal != 0 {
+            return refused_with(numbered(refusal, n));
+        }
+        d = t.draft;
+        n += 1;
+        let b = e + 1;
+        rest = &rest[b..];
+        e = text::find(rest, b'\n');
+    }
+    if 0 < rest.len() {
+        return refused_with(Reading::Malformed(n));
+    }
+    if d.started == 0 {
+        return refused_with(Reading::Misplaced(0));
+    }
+    let model = d.model;
+    ModelRead {
+        reading: Reading::Accepted,
+        model,
+    }
+}
+
+// The model of a text.
+pub fn read_model(text: &[u8]) -> ModelRead
+    ensures { λ r. ⌜ r ≡ readModel (now (text .entry)) ⌝ }
+{
+    if LONGEST < text.len() {
+        return refused_with(Reading::TooLong);
+    }
+    read_lines(text)
+}
