@@ -10,13 +10,15 @@ use lib.Dec.{T, eqb}
 use lib.ListN.{getD}
 use Rattle.product.specs.Lists.{find}
 use Rattle.product.specs.Product.{Step}
+use Rattle.product.specs.Runs.{State, Reaches}
 use Rattle.product.specs.Facts.{Fact, first, pairs}
 use Rattle.product.specs.Check.{closedAt, clean, accepts, Checked, passes, fails, openAt, checked}
 use Rattle.product.proofs.Lists.{T-true}
-use Rattle.product.proofs.Check.{checked-is}
+use Rattle.product.proofs.Check.{accepted-right, checked-is}
 use Rattle.model.specs.declared.Model.{Model}
 use Rattle.model.specs.Model.{productOf}
 use Rattle.model.specs.Valid.{valid}
+use Rattle.model.proofs.Valid.{product-in}
 use Rattle.model.specs.Cases.{Outcome, decides, accepted, refused, checking}
 use Rattle.recheck.specs.declared.Recheck.{Recheck}
 use Rattle.recheck.specs.declared.Recheck.the-variants.{Accepted, Invalid, Short, NoStart, Violating, Open}
@@ -52,6 +54,12 @@ module _ (m : Model) (hs ts : List ℕ) where
       at true true e = (tt, tt, checked-is (productOf m) (inTable (sizeOf m) hs ts) .0 (answer-passes (checked (productOf m) (inTable (sizeOf m) hs ts)) e))
       at true false e = let z : _≡_ {A = ℕ} 0 1 = cc in absurd (omega arith)
       at false b e = let z : _≡_ {A = ℕ} 0 1 = cc in absurd (omega arith)
+
+  -- so an accepted table shows that no run from the start reaches a final state
+  pub accepted-safe : recheck m hs ts ≡ Accepted → (ss : List Step) (c : State) → Reaches (productOf m) ss c → ⊥
+  accepted-safe e =
+      let (v, _, a) = accepted-exactly .0 e in
+      accepted-right (productOf m) (inTable (sizeOf m) hs ts) (product-in m v) a
 
   -- any two answers that the contract allows coincide
   pub one-answer : (r r′ : Recheck) → r ≡ recheck m hs ts → r′ ≡ recheck m hs ts → r ≡ r′

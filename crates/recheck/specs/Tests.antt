@@ -4,7 +4,7 @@ use mathlib.Core.List.{List}
 use mathlib.Core.Option.{Option, none, some}
 use Prim.Native.Nat.{ℕ}
 use lib.ListN.{getD}
-use Rattle.product.specs.Lists.{upTo, over, each, all, find}
+use Rattle.product.specs.Lists.{upTo, all}
 use Rattle.product.specs.Product.{Rule, exit, direct, call, Step}
 use Rattle.product.specs.Facts.{Fact, head, triple}
 use Rattle.model.specs.Model.{ruleAt, nextAt}
@@ -35,11 +35,11 @@ abbrev pub triplesPass : (states : ℕ) → (Fact → Bool) → (q g q′ g1 : �
 triplesPass states t q g q′ g1 = all (triplePasses t q g q′ g1) (upTo states)
 
 -- a direct step passes on and back; a call enters, and then passes on and back by way of every state e in which g1 can be erased
-abbrev pub passes : (states : ℕ) → (Fact → Bool) → (q g q′ g1 : ℕ) → Bool
-passes states t q g q′ g1 = headPasses t q g q′ g1 && triplesPass states t q g q′ g1
+abbrev pub bothPass : (states : ℕ) → (Fact → Bool) → (q g q′ g1 : ℕ) → Bool
+bothPass states t q g q′ g1 = headPasses t q g q′ g1 && triplesPass states t q g q′ g1
 
 abbrev pub returnPasses : (states : ℕ) → (Fact → Bool) → (q g q′ g1 g2 e : ℕ) → Bool
-returnPasses states t q g q′ g1 g2 e = not (t (triple q′ g1 e)) || passes states t q g e g2
+returnPasses states t q g q′ g1 g2 e = not (t (triple q′ g1 e)) || bothPass states t q g e g2
 
 abbrev pub returnsPass : (states : ℕ) → (Fact → Bool) → (q g q′ g1 g2 : ℕ) → Bool
 returnsPass states t q g q′ g1 g2 = all (returnPasses states t q g q′ g1 g2) (upTo states)
@@ -47,7 +47,7 @@ returnsPass states t q g q′ g1 g2 = all (returnPasses states t q g q′ g1 g2)
 -- the consequences of a step from q to q′ by its rule are present
 abbrev pub ruleKept : (states : ℕ) → (Fact → Bool) → (q q′ : ℕ) → Rule → Bool
 ruleKept states t q q′ (exit g) = t (triple q g q′)
-ruleKept states t q q′ (direct g g1) = passes states t q g q′ g1
+ruleKept states t q q′ (direct g g1) = bothPass states t q g q′ g1
 ruleKept states t q q′ (call g g1 g2) = headPasses t q g q′ g1 && returnsPass states t q g q′ g1 g2
 
 abbrev pub nextKept : (states : ℕ) → (Fact → Bool) → ℕ → Rule → Option ℕ → Bool

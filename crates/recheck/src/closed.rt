@@ -4,7 +4,7 @@ ghost use mathlib.Core.Path.{_≡_};
 ghost use Rattle.product.specs.Lists.{upTo, over, each, find};
 ghost use Rattle.model.specs.Answers.{meant};
 ghost use Rattle.recheck.specs.Recheck.{inTable};
-ghost use Rattle.recheck.specs.Tests.{headPasses, triplePasses, triplesPass, passes, returnPasses, returnsPass, ruleKept, stepKept, stepsKept, step, isOpen, foundAs};
+ghost use Rattle.recheck.specs.Tests.{headPasses, triplePasses, triplesPass, returnPasses, returnsPass, ruleKept, stepKept, stepsKept, step, isOpen, foundAs};
 use crate::Found;
 use crate::held::has_head;
 use crate::held::has_triple;

@@ -19,7 +19,7 @@ pub enum Recheck {
 }
 
 // The first rule and move that are not closed, or none.
-pub enum Found {
+enum Found {
     At(usize, usize),
     Nowhere,
 }
