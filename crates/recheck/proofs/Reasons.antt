@@ -1,0 +1,92 @@
+-- The check's answer, reason by reason, from what its code was answered. Assumes nothing.
+use mathlib.Core.Bool.{Bool, true, false, not, _&&_}
+use mathlib.Core.List.{List}
+use mathlib.Core.Option.{Option}
+use mathlib.Core.Path.{_≡_, sym, ap, _∙_}
+use Prim.Native.Nat.{ℕ}
+use lib.Dec.{T}
+use Rattle.product.specs.Lists.{upTo, over, each, find}
+use Rattle.product.specs.Product.{Product, Step}
+use Rattle.product.specs.Facts.{Fact, first, pairs}
+use Rattle.product.specs.Check.{closedAt, clean, fails, openAt, checked}
+use Rattle.model.specs.declared.Model.{Model}
+use Rattle.model.specs.Model.{productOf}
+use Rattle.model.specs.Valid.{valid}
+use Rattle.model.proofs.Bounds.{start-state-in, start-symbol-in}
+use Rattle.model.proofs.Counted.{passed, failed}
+use Rattle.recheck.specs.declared.Recheck.the-variants.{Accepted, Invalid, Short, NoStart, Violating, Open}
+use Rattle.recheck.specs.declared.Found.{Found}
+use Rattle.recheck.specs.declared.Found.the-variants.{At, Nowhere}
+use Rattle.recheck.specs.Recheck.{sizeOf, longEnough, inTable, answer, recheck}
+use Rattle.recheck.specs.Tests.{headsClean, endsClean, step, isOpen, foundAs}
+use Rattle.recheck.proofs.Search.{found-some, found-none}
+use Rattle.recheck.proofs.Steps.{open-is}
+use Rattle.recheck.proofs.Spotless.{clean-is}
+
+module _ (p : Product) (t : Fact → Bool) where
+  pub starts-not : t (first p) ≡ false → checked p t ≡ fails 1 0 0
+  unfolding checked
+  starts-not h = rw (h, checked)
+
+  module _ (starts : t (first p) ≡ true) where
+    pub violates : clean p t ≡ false → checked p t ≡ fails 2 0 0
+    unfolding checked
+    violates h = rw (starts, h, checked)
+
+    pub opens : clean p t ≡ true → checked p t ≡ openAt (find (λ s. not (closedAt p t s)) (pairs p))
+    unfolding checked
+    opens h = rw (starts, h, checked)
+
+abbrev facts : Model → (heads triples : List ℕ) → Fact → Bool
+facts m hs ts = inTable (sizeOf m) hs ts
+
+abbrev endsOf : Model → (Fact → Bool) → Bool
+endsOf m t = endsClean (m .states) (m .finals) t (m .startstate) (m .startsymbol)
+
+abbrev openingOf : Model → (Fact → Bool) → Option Step
+openingOf m t = find (isOpen (m .rulerows) (m .moverows) (m .shows) (m .states) t) (over (upTo (m .rules)) (λ r. each (upTo (m .moves)) (step r)))
+
+-- is the record valid, are the arrays long enough, is the start head there, are heads and ends clean
+module _ (m : Model) (hs ts : List ℕ) {a : Bool} (sound : a ≡ valid m) where
+  pub is-invalid : not a ≡ true → Invalid ≡ recheck m hs ts
+  unfolding recheck
+  is-invalid n = rw (failed sound n)
+
+  module _ (y : not a ≡ false) {b : Bool} (long : b ≡ longEnough (sizeOf m) hs ts) where
+    pub is-short : not b ≡ true → Short ≡ recheck m hs ts
+    unfolding recheck
+    is-short n = rw (passed sound y, failed long n)
+
+    module _ (k : not b ≡ false) where
+      checks : recheck m hs ts ≡ answer (checked (productOf m) (facts m hs ts))
+      unfolding recheck
+      checks = rw (passed sound y, passed long k)
+
+      module _ {c : Bool} (start : c ≡ facts m hs ts (first (productOf m))) where
+        pub has-no-start : not c ≡ true → NoStart ≡ recheck m hs ts
+        has-no-start n = sym (checks ∙ ap answer (starts-not (productOf m) (facts m hs ts) (failed start n)))
+
+        module _ (i : not c ≡ false) where
+          both-clean : clean (productOf m) (facts m hs ts) ≡ (headsClean (m .symbols) (m .states) (m .finals) (facts m hs ts) && endsOf m (facts m hs ts))
+          both-clean = let v : T (valid m) = rw (passed sound y) tt in clean-is m (facts m hs ts) (start-state-in m v) (start-symbol-in m v)
+
+          module _ {d : Bool} (heads : d ≡ headsClean (m .symbols) (m .states) (m .finals) (facts m hs ts)) where
+            pub has-violating-head : not d ≡ true → Violating ≡ recheck m hs ts
+            has-violating-head n = sym (checks ∙ ap answer (violates (productOf m) (facts m hs ts) (passed start i) (both-clean ∙ ap (λ d. d && endsOf m (facts m hs ts)) (failed heads n))))
+
+            module _ (j : not d ≡ false) {e : Bool} (ends′ : e ≡ endsOf m (facts m hs ts)) where
+              sides-are : clean (productOf m) (facts m hs ts) ≡ endsOf m (facts m hs ts)
+              sides-are = both-clean ∙ ap (λ d. d && endsOf m (facts m hs ts)) (passed heads j)
+
+              pub has-violating-end : not e ≡ true → Violating ≡ recheck m hs ts
+              has-violating-end n = sym (checks ∙ ap answer (violates (productOf m) (facts m hs ts) (passed start i) (sides-are ∙ failed ends′ n)))
+
+              module _ (l : not e ≡ false) {f : Found} (found : f ≡ foundAs (openingOf m (facts m hs ts))) where
+                searched : recheck m hs ts ≡ answer (openAt (openingOf m (facts m hs ts)))
+                searched = checks ∙ ap answer (opens (productOf m) (facts m hs ts) (passed start i) (sides-are ∙ passed ends′ l) ∙ ap openAt (open-is m (facts m hs ts)))
+
+                pub is-open : {r v : ℕ} → f ≡ At r v → Open r v ≡ recheck m hs ts
+                is-open e = sym (searched ∙ ap (λ o. answer (openAt o)) (found-some (openingOf m (facts m hs ts)) found e))
+
+                pub is-accepted : f ≡ Nowhere → Accepted ≡ recheck m hs ts
+                is-accepted e = sym (searched ∙ ap (λ o. answer (openAt o)) (found-none (openingOf m (facts m hs ts)) found e))

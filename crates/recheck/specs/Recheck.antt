@@ -1,0 +1,48 @@
+-- The table check's answer: its refusals in their order, and the document's number and values of each answer. Assumes nothing.
+use mathlib.Core.Bool.{Bool, cond, not, _&&_}
+use mathlib.Core.List.{List, [], _∷_}
+use Prim.Native.Nat.{ℕ, _*_}
+use lib.Dec.{eqb, leb}
+use lib.ListN.{length}
+use Rattle.product.specs.Facts.{Fact}
+use Rattle.product.specs.Table.{present}
+use Rattle.product.specs.Check.{Checked, passes, fails, checked}
+use Rattle.table.specs.declared.Size.{Size}
+use Rattle.table.specs.Cells.{view}
+use Rattle.model.specs.declared.Model.{Model}
+use Rattle.model.specs.Model.{productOf}
+use Rattle.model.specs.Valid.{valid}
+use Rattle.model.specs.Cases.{Outcome, accepted, refused}
+use Rattle.recheck.specs.declared.Recheck.{Recheck}
+use Rattle.recheck.specs.declared.Recheck.the-variants.{Accepted, Invalid, Short, NoStart, Violating, Open}
+
+-- The document's number of each answer, and what is returned with it.
+abbrev pub means : Recheck → Outcome
+means Accepted = accepted
+means Invalid = refused 6 (0 ∷ [])
+means Short = refused 7 (0 ∷ [])
+means NoStart = refused 11 (1 ∷ 0 ∷ 0 ∷ [])
+means Violating = refused 11 (2 ∷ 0 ∷ 0 ∷ [])
+means (Open r v) = refused 11 (3 ∷ r ∷ v ∷ [])
+
+abbrev pub sizeOf : Model → Size
+sizeOf m = record { symbols = m .symbols; states = m .states }
+
+-- heads G·Q, triples G·Q·Q
+abbrev pub longEnough : Size → (heads triples : List ℕ) → Bool
+longEnough z hs ts = leb (z .symbols * z .states) (length hs) && leb (z .symbols * z .states * z .states) (length ts)
+
+-- the facts of the two arrays: any number but 65,535 means present
+abbrev pub inTable : Size → (heads triples : List ℕ) → Fact → Bool
+inTable z hs ts = present (view (z .symbols) (z .states) hs ts)
+
+abbrev pub answer : Checked → Recheck
+answer passes = Accepted
+answer (fails reason r v) = cond (eqb reason 1) NoStart (cond (eqb reason 2) Violating (Open r v))
+
+-- 6, then 7, then the first reason of 11 that applies
+unfoldable pub recheck : Model → (heads triples : List ℕ) → Recheck
+recheck m hs ts =
+    cond (not (valid m)) Invalid
+    (cond (not (longEnough (sizeOf m) hs ts)) Short
+    (answer (checked (productOf m) (inTable (sizeOf m) hs ts))))

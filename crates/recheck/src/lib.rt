@@ -1,0 +1,79 @@
+// The table check: whether the facts in two lent arrays show that no run violates. It knows the model and the definitions, and no decision.
+ghost use mathlib.Core.Path.{_≡_};
+ghost use Rattle.recheck.specs.Recheck.{longEnough, recheck};
+use crate::clean::ends_clean;
+use crate::clean::heads_clean;
+use crate::closed::open_step;
+use crate::held::has_head;
+use model::Model;
+use table::Size;
+
+// The answer. specs/Recheck.antt gives the document's number and values of each.
+pub enum Recheck {
+    Accepted,
+    Invalid,
+    Short,
+    NoStart,
+    Violating,
+    Open(usize, usize),
+}
+
+// The first rule and move that are not closed, or none.
+enum Found {
+    At(usize, usize),
+    Nowhere,
+}
+
+mod held; // which facts are present
+mod clean; // whether no violating fact is
+mod closed; // whether the consequences of every step are
+
+// The arrays have a cell for each head and each triple.
+fn long_enough<'a>(heads: &'a [u16], triples: &'a [u16], size: Size) -> bool
+    ensures { λ b. ⌜ b ≡ longEnough size (now (heads .entry)) (now (triples .entry)) ⌝ }
+{
+    let states = size.states as usize;
+    let count = (size.symbols as usize) * states;
+    count <= heads.len() && count * states <= triples.len()
+}
+
+// Accepts exactly if the start head is present, no violating fact is, and every consequence of every step is; else the first reason.
+pub fn check_table<'a>(m: Model, heads: &'a [u16], triples: &'a [u16]) -> Recheck
+    ensures { λ r. ⌜ r ≡ recheck m (now (heads .entry)) (now (triples .entry)) ⌝ }
+{
+    if !model::is_valid(m) {
+        return Recheck::Invalid;
+    }
+    let size = Size {
+        symbols: m.symbols,
+        states: m.states,
+    };
+    if !long_enough(heads, triples, size) {
+        return Recheck::Short;
+    }
+    let q = m.startstate as usize;
+    let g = m.startsymbol as usize;
+    if !has_head(heads, size, q, g) {
+        return Recheck::NoStart;
+    }
+    if !heads_clean(heads, &m.finals, size) {
+        return Recheck::Violating;
+    }
+    if !ends_clean(triples, &m.finals, size, q, g) {
+        return Recheck::Violating;
+    }
+    let found = open_step(
+        &m.rulerows,
+        &m.moverows,
+        &m.shows,
+        heads,
+        triples,
+        size,
+        m.rules,
+        m.moves,
+    );
+    match found {
+        Found::At(r, v) => Recheck::Open(r, v),
+        Found::Nowhere => Recheck::Accepted,
+    }
+}
