@@ -24,7 +24,8 @@ use Rattle.replay.specs.declared.Outcome.{Outcome}
 use Rattle.replay.specs.declared.Outcome.the-variants.{Moved, Blocked, Arrived}
 use Rattle.replay.specs.declared.Replayed.the-variants.{Accepted, Bad}
 use Rattle.replay.specs.Replay.{answered}
-use Rattle.replay.specs.Machine.{below, stepAt, Ready, machine, outcome, Held, Stepped}
+use Rattle.replay.specs.Machine.{below, stepAt, Ready, machine, outcome, Held, Stepped, Ran}
+use Rattle.replay.specs.declared.Replayed.{Replayed}
 
 -- what the outcome of a step says of it
 module _ (finals : List Bool) (number : ℕ) where
@@ -139,7 +140,7 @@ module _ (m : Model) (steps : List ℕ) where
     abbrev Done : Outcome → List ℕ → Type 0
     Done o cells′ = Stepped (m .finals) (k + 1) (at .depth) (stepAt (m .rulerows) (m .moverows) (m .shows) (m .rules) (m .moves) next here) cells o cells′
 
-    pub rest-after : k < length steps → {o : Outcome} (cells′ : List ℕ) → Done o cells′ → drop (length steps + 1) cells′ ≡ drop (length steps + 1) cells₀
+    rest-after : k < length steps → {o : Outcome} (cells′ : List ℕ) → Done o cells′ → drop (length steps + 1) cells′ ≡ drop (length steps + 1) cells₀
     rest-after l cells′ did = did .rest (length steps + 1) (omega (arith, now .deep)) ∙ now .rest
 
     pub turns : k < length steps → {o : Outcome} {cells′ : List ℕ} → Done o cells′ → length cells′ ≡ length cells
@@ -158,23 +159,25 @@ module _ (m : Model) (steps : List ℕ) where
           final-now = f;
         }
 
-    pub blocked : k < length steps → {o : Outcome} {cells′ : List ℕ} → Done o cells′ → {n : ℕ} → o ≡ Blocked n → Bad n ≡ answered (replay (productOf m) (each steps loaded))
-    blocked l did {n} e =
+    pub blocked : k < length steps → {o : Outcome} {cells′ : List ℕ} → Done o cells′ → {n : ℕ} → o ≡ Blocked n → Ran m steps cells₀ (Bad n) cells′
+    blocked l {o} {cells′} did {n} e =
         let (c, i) = was-blocked (m .finals) (k + 1) (stepAt (m .rulerows) (m .moverows) (m .shows) (m .rules) (m .moves) next here) (sym (did .came) ∙ e) in
-        rw (sym (asked l) ∙ breaks (productOf m) k here next later (sym (step-same m next here) ∙ c)) (ap Bad (sym i ∙ add-one k))
+        record {
+          answer = rw (sym (asked l) ∙ breaks (productOf m) k here next later (sym (step-same m next here) ∙ c)) (ap Bad (sym i ∙ add-one k));
+          rest = rest-after l cells′ did;
+        }
 
-    pub finished : length steps ≤ k → (b : Bool) → accepting ≡ b → cond b Accepted (Bad (k + 1)) ≡ answered (replay (productOf m) (each steps loaded))
+    pub finished : length steps ≤ k → (b : Bool) → accepting ≡ b → Ran m steps cells₀ (cond b Accepted (Bad (k + 1))) cells
     finished l b e =
         let i : k ≡ length steps = omega (arith, now .upto) in
         let none-left : drop k steps ≡ [] = rw i (drop-length steps) in
         let x : replayFrom (productOf m) k here [] ≡ replay (productOf m) (each steps loaded) = rw none-left at (now .to-do) in
-        rw (sym x ∙ ends (productOf m) k here b (now .final-now ∙ e)) (said b)
+        record { answer = rw (sym x ∙ ends (productOf m) k here b (now .final-now ∙ e)) (said b); rest = now .rest }
       where
         said : (b : Bool) → cond b Accepted (Bad (k + 1)) ≡ answered (cond b replays (stops (suc k)))
         said true = refl
         said false = ap Bad (add-one k)
 
-  -- the cells past the first steps + 1 are those before the run
-  pub kept : (cells : List ℕ) (g : ℕ) (cells′ : List ℕ) → drop (length steps + 1) cells′ ≡ drop (length steps + 1) (set cells 0 g)
-      → drop (length steps + 1) cells′ ≡ drop (length steps + 1) cells
-  kept cells g cells′ e = e ∙ drop-set-lt (length steps + 1) cells 0 g (omega arith)
+  -- the start symbol is put into the first cell before the run
+  pub from-start : (cells : List ℕ) {r : Replayed} {cells′ : List ℕ} → Ran m steps (set cells 0 (m .startsymbol)) r cells′ → Ran m steps cells r cells′
+  from-start cells h = record { answer = h .answer; rest = h .rest ∙ drop-set-lt (length steps + 1) cells 0 (m .startsymbol) (omega arith) }

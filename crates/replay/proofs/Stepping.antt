@@ -50,28 +50,29 @@ reaches finals number depth q gs cells cells′ {d} t few e r b f =
       rest = r .rest;
     }
 
-module _ (rulerows moverows : List ℕ) (shows finals : List Bool) (rules moves : ℕ) (s : Step) (number q : ℕ) (cells : List ℕ) where
-  abbrev next : ℕ → Option State
-  next depth = stepAt rulerows moverows shows rules moves s (q, below cells depth)
+module _ {rulerows moverows : List ℕ} {shows : List Bool} {rules moves : ℕ} {cells : List ℕ} {depth : ℕ}
+    (ready : Ready rulerows moverows shows rules moves cells depth) (finals : List Bool) (s : Step) (number q : ℕ) where
+  abbrev Done : Outcome → List ℕ → Type 0
+  Done o cells′ = Stepped finals number depth (stepAt rulerows moverows shows rules moves s (q, below cells depth)) cells o cells′
 
-  abbrev Done : ℕ → Outcome → List ℕ → Type 0
-  Done depth o cells′ = Stepped finals number depth (next depth) cells o cells′
+  abbrev top : ℕ
+  top = getD cells (depth - 1) 0
 
   -- any step over the empty stack is bad
-  pub empty : (depth : ℕ) → depth ≡ 0 → Done depth (Blocked number) cells
-  empty depth e = stays finals number depth cells (rw e)
+  pub empty : depth ≡ 0 → Done (Blocked number) cells
+  empty e = stays finals number depth cells (rw e)
 
-  module _ (depth : ℕ) (top : 1 ≤ depth) {n : Next} (answer : n ≡ nextAs (goesAt rulerows moverows shows rules moves s q (getD cells (depth - 1) 0))) where
-    pub stuck : n ≡ Stuck → Done depth (Blocked number) cells
-    stuck e = stays finals number depth cells (rw (below-top cells depth top, went rulerows moverows shows rules moves s q (getD cells (depth - 1) 0) answer e))
+  module _ (some-top : 1 ≤ depth) {n : Next} (answer : n ≡ nextAs (goesAt rulerows moverows shows rules moves s q top)) where
+    pub stuck : n ≡ Stuck → Done (Blocked number) cells
+    stuck e = stays finals number depth cells (rw (below-top cells depth some-top, went rulerows moverows shows rules moves s q top answer e))
 
-    module _ (ready : Ready rulerows moverows shows rules moves cells depth) {q′ : ℕ} (to : n ≡ To q′) where
-      goes : goesAt rulerows moverows shows rules moves s q (getD cells (depth - 1) 0) ≡ some q′
-      goes = went rulerows moverows shows rules moves s q (getD cells (depth - 1) 0) answer to
+    module _ {q′ : ℕ} (to : n ≡ To q′) where
+      goes : goesAt rulerows moverows shows rules moves s q top ≡ some q′
+      goes = went rulerows moverows shows rules moves s q top answer to
 
       pub state-in : q′ < 8
       state-in =
-          let (_, v, e) = goes-in rulerows moverows shows rules moves s q (getD cells (depth - 1) 0) goes in
+          let (_, v, e) = goes-in rulerows moverows shows rules moves s q top goes in
           subst (λ q. q < 8) e (ready .states (s .by-move) v)
 
       module _ {ρ : Rule} (read : ρ ≡ ruleAs (ruleAt rulerows (s .by-rule))) where
@@ -80,13 +81,15 @@ module _ (rulerows moverows : List ℕ) (shows finals : List Bool) (rules moves 
 
         pub top-room : Room cells depth (pushed (meant ρ))
         top-room = record {
-          some-top = top;
+          some-top = some-top;
           some-cell = ready .room;
-          bytes = subst (λ ρ. All (λ g. g < 256) (pushed ρ)) rule-is (ready .symbols (s .by-rule) (goes-in rulerows moverows shows rules moves s q (getD cells (depth - 1) 0) goes .0));
+          bytes =
+              subst (λ ρ. All (λ g. g < 256) (pushed ρ)) rule-is
+              (ready .symbols (s .by-rule) (goes-in rulerows moverows shows rules moves s q top goes .0));
         }
 
-        pub stepped : {d : ℕ} (cells′ : List ℕ) → Replaced depth (pushed (meant ρ)) cells d cells′ → (b : Bool) → getD finals q′ false ≡ b
-            → Done depth (cond b (Arrived (record { state = q′; depth = d })) (Moved (record { state = q′; depth = d }))) cells′
-        stepped cells′ r b f =
-            reaches finals number depth q′ (pushed (meant ρ)) cells cells′ top (few-pushed (meant ρ))
-            (rw (below-top cells depth top, goes, rule-is)) r b f
+        pub stepped : {d : ℕ} {cells′ : List ℕ} → Replaced depth (pushed (meant ρ)) cells d cells′ → (b : Bool) → getD finals q′ false ≡ b
+            → Done (cond b (Arrived (record { state = q′; depth = d })) (Moved (record { state = q′; depth = d }))) cells′
+        stepped {d} {cells′} r b f =
+            reaches finals number depth q′ (pushed (meant ρ)) cells cells′ some-top (few-pushed (meant ρ))
+            (rw (below-top cells depth some-top, goes, rule-is)) r b f

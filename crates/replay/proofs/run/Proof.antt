@@ -6,7 +6,7 @@ use mathlib.Core.Path.{_∙_}
 use denote.Ref.{now}
 use Rattle.model.proofs.Valid.{valid-sizes}
 use Rattle.model.proofs.Bounds.{start-state-in}
-use Rattle.replay.proofs.Running.{Doing, ready, begins, blocked, turns, rest-after, finished, kept}
+use Rattle.replay.proofs.Running.{Doing, ready, begins, blocked, turns, finished, from-start}
 use borrow.Author.Needs.{needs}
 use native.Mathlib.Omega.{arith}
 use Rattle.replay.proofs.run.Statement.{statement}
@@ -70,10 +70,7 @@ returns c =
     let s = c .before .before .before .before .before .before .before .before .before .before .before .before .before .before .before .before .before .before in
     let a = s .args in
     let l = c .before .before .before .before .before .before .before .before .before .before .before .before .before .before .loop in
-    record {
-      answer = blocked (a .t1) (now (a .steps)) (l .inv) (search needs) (c .before .before .before .before .before .step .ensures) (c .before .outcome .given .1);
-      rest = kept (a .t1) (now (a .steps)) (now (a .stack)) (a .t1 .startsymbol) _ (rest-after (a .t1) (now (a .steps)) (l .inv) (search needs) _ (c .before .before .before .before .before .step .ensures));
-    }
+    from-start (a .t1) (now (a .steps)) (now (a .stack)) (blocked (a .t1) (now (a .steps)) (l .inv) (search needs) (c .before .before .before .before .before .step .ensures) (c .before .outcome .given .1))
 
 enum-known-outcome-2 : tie.Need-enum-known-outcome-2 Inv-loop μ-loop
 enum-known-outcome-2 c = search needs
@@ -112,10 +109,7 @@ returns-2 c =
     let s = c .before .before .before .before .before .before in
     let a = s .args in
     let l = c .before .before .loop in
-    record {
-      answer = finished (a .t1) (now (a .steps)) (l .inv) (search needs) true (c .if1 .taken);
-      rest = kept (a .t1) (now (a .steps)) (now (a .stack)) (a .t1 .startsymbol) (l .stack) (l .inv .rest);
-    }
+    from-start (a .t1) (now (a .steps)) (now (a .stack)) (finished (a .t1) (now (a .steps)) (l .inv) (search needs) true (c .if1 .taken))
 
 add-t31 : tie.Need-add-t31 Inv-loop μ-loop
 add-t31 c = search needs
@@ -131,10 +125,7 @@ returns-3 c =
     let s = c .before .before .before .before .before .before in
     let a = s .args in
     let l = c .before .before .loop in
-    record {
-      answer = finished (a .t1) (now (a .steps)) (l .inv) (search needs) false (c .if1 .left);
-      rest = kept (a .t1) (now (a .steps)) (now (a .stack)) (a .t1 .startsymbol) (l .stack) (l .inv .rest);
-    }
+    from-start (a .t1) (now (a .steps)) (now (a .stack)) (finished (a .t1) (now (a .steps)) (l .inv) (search needs) false (c .if1 .left))
 
 pub run-spec : {M : Type 1} → statement M
 run-spec =

@@ -13,7 +13,7 @@ returns : tie.Need-returns
 returns c =
     let s = c .before .before in
     let a = s .args in
-    empty (now (a .rulerows)) (now (a .moverows)) (now (a .shows)) (now (a .finals)) (a .rules) (a .moves) (loaded (a .n)) (a .number) (a .at .state) (now (a .stack)) (a .at .depth) (c .if1 .taken)
+    empty (s .pre) (now (a .finals)) (loaded (a .n)) (a .number) (a .at .state) (c .if1 .taken)
 
 sub-top : tie.Need-sub-top
 sub-top c = search needs
@@ -46,13 +46,13 @@ replace-requires : tie.Need-replace-requires
 replace-requires c κs =
     let s = c .before .before .before .before .before .before .before .before .before in
     let a = s .args in
-    top-room (now (a .rulerows)) (now (a .moverows)) (now (a .shows)) (now (a .finals)) (a .rules) (a .moves) (loaded (a .n)) (a .number) (a .at .state) (now (a .stack)) (a .at .depth) (search needs) (c .before .before .before .before .before .goes .ensures) (s .pre) (c .before .before .before .next .given .1) (c .before .rule-at .ensures)
+    top-room (s .pre) (now (a .finals)) (loaded (a .n)) (a .number) (a .at .state) (search needs) (c .before .before .before .before .before .goes .ensures) (c .before .before .before .next .given .1) (c .before .rule-at .ensures)
 
 element-copy-out-if2 : tie.Need-element-copy-out-if2
 element-copy-out-if2 c =
     let s = c .before .before .before .before .before .before .before .before .before .before .before .before in
     let a = s .args in
-    omega (arith, state-in (now (a .rulerows)) (now (a .moverows)) (now (a .shows)) (now (a .finals)) (a .rules) (a .moves) (loaded (a .n)) (a .number) (a .at .state) (now (a .stack)) (a .at .depth) (search needs) (c .before .before .before .before .before .before .before .before .goes .ensures) (s .pre) (c .before .before .before .before .before .before .next .given .1))
+    omega (arith, state-in (s .pre) (now (a .finals)) (loaded (a .n)) (a .number) (a .at .state) (search needs) (c .before .before .before .before .before .before .before .before .goes .ensures) (c .before .before .before .before .before .before .next .given .1))
 
 same-length : tie.Need-same-length
 same-length c = search needs
@@ -61,13 +61,13 @@ returns-2 : tie.Need-returns-2
 returns-2 c =
     let s = c .before .before .before .before .before .before .before .before .before .before .before .before .before .before in
     let a = s .args in
-    stepped (now (a .rulerows)) (now (a .moverows)) (now (a .shows)) (now (a .finals)) (a .rules) (a .moves) (loaded (a .n)) (a .number) (a .at .state) (now (a .stack)) (a .at .depth) (search needs) (c .before .before .before .before .before .before .before .before .before .before .goes .ensures) (s .pre) (c .before .before .before .before .before .before .before .before .next .given .1) (c .before .before .before .before .before .before .rule-at .ensures) _ (c .before .before .before .before .replace .ensures) true (c .if2 .taken)
+    stepped (s .pre) (now (a .finals)) (loaded (a .n)) (a .number) (a .at .state) (search needs) (c .before .before .before .before .before .before .before .before .before .before .goes .ensures) (c .before .before .before .before .before .before .before .before .next .given .1) (c .before .before .before .before .before .before .rule-at .ensures) (c .before .before .before .before .replace .ensures) true (c .if2 .taken)
 
 returns-3 : tie.Need-returns-3
 returns-3 c =
     let s = c .before .before .before .before .before .before in
     let a = s .args in
-    stuck (now (a .rulerows)) (now (a .moverows)) (now (a .shows)) (now (a .finals)) (a .rules) (a .moves) (loaded (a .n)) (a .number) (a .at .state) (now (a .stack)) (a .at .depth) (search needs) (c .before .before .goes .ensures) (c .enum-told .given .1)
+    stuck (s .pre) (now (a .finals)) (loaded (a .n)) (a .number) (a .at .state) (search needs) (c .before .before .goes .ensures) (c .enum-told .given .1)
 
 same-length-2 : tie.Need-same-length-2
 same-length-2 c = search needs
@@ -76,7 +76,7 @@ returns-4 : tie.Need-returns-4
 returns-4 c =
     let s = c .before .before .before .before .before .before .before .before .before .before .before .before .before .before in
     let a = s .args in
-    stepped (now (a .rulerows)) (now (a .moverows)) (now (a .shows)) (now (a .finals)) (a .rules) (a .moves) (loaded (a .n)) (a .number) (a .at .state) (now (a .stack)) (a .at .depth) (search needs) (c .before .before .before .before .before .before .before .before .before .before .goes .ensures) (s .pre) (c .before .before .before .before .before .before .before .before .next .given .1) (c .before .before .before .before .before .before .rule-at .ensures) _ (c .before .before .before .before .replace .ensures) false (c .if2 .left)
+    stepped (s .pre) (now (a .finals)) (loaded (a .n)) (a .number) (a .at .state) (search needs) (c .before .before .before .before .before .before .before .before .before .before .goes .ensures) (c .before .before .before .before .before .before .before .before .next .given .1) (c .before .before .before .before .before .before .rule-at .ensures) (c .before .before .before .before .replace .ensures) false (c .if2 .left)
 
 pub step-spec : {M : Type 1} → statement M
 step-spec =
