@@ -4,3 +4,4 @@ pub mod Stepping
 pub mod Running
 pub mod Answers
 pub mod Outcomes
+pub mod Cases

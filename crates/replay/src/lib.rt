@@ -1,15 +1,12 @@
 // The replay of a stored trace: a machine of a property state and a stack, whose symbols lie in a lent array, the top last.
 ghost use mathlib.Core.List.{_++_};
 ghost use mathlib.Core.Path.{_≡_};
-ghost use Prim.Native.Nat.{_+_, _<_, _≤_};
-ghost use lib.Dec.{T, eqb};
+ghost use Prim.Native.Nat.{_≤_};
+ghost use lib.Dec.{eqb};
 ghost use lib.ListN.{length, replicate, drop};
-ghost use Rattle.product.specs.Lists.{each};
 ghost use Rattle.product.specs.Product.{symbol, pushed, loaded};
-ghost use Rattle.model.specs.Model.{productOf};
 ghost use Rattle.model.specs.Answers.{meant, nextAs};
-ghost use Rattle.model.specs.Valid.{valid};
-ghost use Rattle.replay.specs.Replay.{Replays, answered};
+ghost use Rattle.replay.specs.Replay.{Replays};
 ghost use Rattle.replay.specs.Machine.{below, Room, Replaced, goesAt, stepAt, Ready, Stepped, Runs, Ran};
 use model::Model;
 use model::Next;
@@ -111,7 +108,10 @@ fn step<'a>(
     number: usize,
 ) -> Outcome
     requires { ⌜ Ready (now rulerows) (now moverows) (now shows) rules moves (now stack) (at .depth) ⌝ }
-    ensures { λ o. ⌜ Stepped (now (finals .entry)) number (at .depth) (stepAt (now (rulerows .entry)) (now (moverows .entry)) (now (shows .entry)) rules moves (loaded n) (at .state, below (now (stack .entry)) (at .depth))) (now (stack .entry)) o (now (stack .exit)) ⌝ }
+    ensures { λ o. ⌜ Stepped (now (finals .entry)) number (at .depth)
+        (stepAt (now (rulerows .entry)) (now (moverows .entry)) (now (shows .entry)) rules moves (loaded n)
+        (at .state, below (now (stack .entry)) (at .depth)))
+        (now (stack .entry)) o (now (stack .exit)) ⌝ }
 {
     let depth = at.depth;
     if depth == 0 {
