@@ -1,4 +1,4 @@
--- `replay::clear` meets its contract. Assumes nothing.
+-- `replay::clear` meets its contract. The loop's invariant: the first i cells are 0, and the others as before. Assumes nothing.
 use mathlib.Core.List.{List, _++_}
 use mathlib.Core.Path.{_≡_, refl, ap, _∙_}
 use Prim.Native.Nat.{ℕ, _-_, _≤_}

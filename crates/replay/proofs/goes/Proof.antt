@@ -1,4 +1,4 @@
--- `replay::goes` meets its contract. Assumes nothing.
+-- `replay::goes` meets its contract: the tests in their order. Assumes nothing.
 use denote.Ref.{now}
 use Rattle.product.specs.Product.{loaded}
 use Rattle.replay.proofs.Going.{no-rule, no-move, other-top, its-top}

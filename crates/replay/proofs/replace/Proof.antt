@@ -1,4 +1,4 @@
--- `replay::replace` meets its contract. Assumes nothing.
+-- `replay::replace` meets its contract, by the three kinds of rules. Assumes nothing.
 use denote.Ref.{now}
 use Rattle.replay.proofs.Stack.{direct-byte, call-bytes, exit-replaced, direct-replaced, call-replaced}
 use native.Mathlib.Omega.{arith}

@@ -1,4 +1,4 @@
--- `replay::replay_steps` meets its contract. Assumes nothing.
+-- `replay::replay_steps` meets its contract: the record is tested, then the room, and after a run the cells are cleared. Assumes nothing.
 use denote.Ref.{now}
 use Rattle.replay.proofs.Answers.{invalid, short, runs, ran}
 use borrow.Author.Needs.{needs}

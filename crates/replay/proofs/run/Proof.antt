@@ -1,4 +1,4 @@
--- `replay::run` meets its contract. Assumes nothing.
+-- `replay::run` meets its contract. The loop's invariant is `Doing`: what is left to replay, from where the machine stands, gives what was asked. Assumes nothing.
 use mathlib.Core.Bool.{true, false}
 use Prim.Native.Nat.{_-_}
 use lib.ListN.{length, length-set}

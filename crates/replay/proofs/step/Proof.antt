@@ -1,4 +1,4 @@
--- `replay::step` meets its contract. Assumes nothing.
+-- `replay::step` meets its contract: no step over the empty stack or where none goes, and else the rule replaces the top. Assumes nothing.
 use mathlib.Core.Bool.{true, false}
 use Prim.Native.Nat.{_-_}
 use denote.Ref.{now}
