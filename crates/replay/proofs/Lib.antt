@@ -1,0 +1,7 @@
+pub mod Stack
+pub mod Going
+pub mod Stepping
+pub mod Running
+pub mod Answers
+pub mod Outcomes
+pub mod Cases
