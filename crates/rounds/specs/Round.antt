@@ -2,14 +2,14 @@
 use mathlib.Core.Bool.{Bool, cond}
 use mathlib.Core.List.{List, [], _∷_}
 use mathlib.Core.Option.{Option, none, some}
-use Prim.Native.Nat.{ℕ}
+use Prim.Native.Nat.{ℕ, _*_}
 use lib.Dec.{eqb, ltb}
 use Rattle.product.specs.Lists.{upTo, over, all}
 use Rattle.product.specs.Product.{Rule, Step}
-use Rattle.product.specs.Facts.{Fact, head, triple, Way, needs, consequences, ways}
+use Rattle.product.specs.Facts.{Fact, head, triple, first, Way, needs, consequences, ways}
 use Rattle.product.specs.Table.{Table, absent}
 use Rattle.table.specs.declared.Size.{Size}
-use Rattle.table.specs.Cells.{view, putHead, putTriple}
+use Rattle.table.specs.Cells.{view, putHead, putTriple, cleared}
 use Rattle.model.specs.declared.Model.{Model}
 use Rattle.model.specs.Model.{ruleAt, nextAt, productOf}
 
@@ -47,6 +47,11 @@ allTaken z k (w ∷ ws) c = allTaken z k ws (taken z k w c)
 
 abbrev pub sizeOf : Model → Size
 sizeOf m = record { symbols = m .symbols; states = m .states }
+
+-- round 0: every cell of the table is marked absent, and then the start head has rank 0
+abbrev pub startOf : Model → Arrays → Arrays
+startOf m c =
+    put (sizeOf m) (first (productOf m)) 0 (cleared (m .states * m .symbols) (c .0), cleared (m .states * m .symbols * m .states) (c .1))
 
 -- round k of a model's product
 abbrev pub roundOf : Model → ℕ → Arrays → Arrays
