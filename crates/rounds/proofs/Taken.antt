@@ -1,8 +1,8 @@
 -- What the code does with a fact, a way, and the ways of a loop, is what the definitions say. Assumes nothing.
 use mathlib.Core.Bool.{Bool, true, false}
 use mathlib.Core.List.{List, [], _∷_, _++_}
-use mathlib.Core.Path.{_≡_, refl, sym, ap, _∙_}
-use Prim.Native.Nat.{ℕ, _+_, _<_, _≤_}
+use mathlib.Core.Path.{_≡_, refl, sym, ap, ap₂, _∙_}
+use Prim.Native.Nat.{ℕ, _+_, _*_, _<_, _≤_}
 use native.Mathlib.Numerals.{add-one}
 use native.Mathlib.Omega.{arith}
 use borrow.Author.Tests.{lt-ltb, le-ltb, eq-eqb, ne-eqb}
@@ -11,7 +11,9 @@ use Rattle.product.specs.Facts.{Fact, Way, needs}
 use Rattle.product.specs.Table.{Table, absent}
 use Rattle.product.proofs.Lists.{over-suc}
 use Rattle.table.specs.declared.Size.{Size}
-use Rattle.rounds.specs.Round.{Arrays, tableOf, put, gained, lower, taken, allTaken}
+use Rattle.table.specs.Cells.{putHead, cleared}
+use Rattle.model.specs.declared.Model.{Model}
+use Rattle.rounds.specs.Round.{Arrays, arrays, startOf, tableOf, put, gained, lower, taken, allTaken}
 
 -- n is the rank of a fact that was read
 module _ (z : Size) (f : Fact) (k : ℕ) (c : Arrays) {n : ℕ} (read : n ≡ tableOf z c f) where
@@ -20,6 +22,13 @@ module _ (z : Size) (f : Fact) (k : ℕ) (c : Arrays) {n : ℕ} (read : n ≡ ta
 
   pub gets : n ≡ absent → put z f k c ≡ gained z f k c
   gets e = rw (eq-eqb (tableOf z c f) absent (sym read ∙ e))
+
+-- the arrays of round 0, cleared one after the other
+pub started : (m : Model) (hs ts : List ℕ) {n n′ : ℕ} → n ≡ m .states * m .symbols → n′ ≡ m .states * m .symbols * m .states → (hs′ : List ℕ) {ts′ hs″ : List ℕ}
+    → hs′ ≡ cleared n hs → ts′ ≡ cleared n′ ts → hs″ ≡ putHead (m .symbols) (m .states) hs′ (m .startstate) (m .startsymbol) 0
+    → arrays hs″ ts′ ≡ startOf m (arrays hs ts)
+started m hs ts e e′ hs′ h i j =
+    ap₂ arrays (j ∙ ap (λ xs. putHead (m .symbols) (m .states) xs (m .startstate) (m .startsymbol) 0) (h ∙ ap (λ n. cleared n hs) e)) (i ∙ ap (λ n. cleared n ts) e′)
 
 module _ (k : ℕ) (t : Table) (f : Fact) (fs : List Fact) {n : ℕ} (read : n ≡ t f) where
   pub lacks : k ≤ n → all (lower k t) (f ∷ fs) ≡ false

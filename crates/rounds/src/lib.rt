@@ -1,8 +1,8 @@
 // One round over the two lent arrays, in which the facts held before it, those of lower rank, give new ones.
 ghost use mathlib.Core.Path.{_≡_};
 ghost use mathlib.Core.List.{List};
-ghost use Prim.Native.Nat.{ℕ};
-ghost use Rattle.rounds.specs.Round.{arrays, allTaken, roundOf, stepWays, pairWays, ruleWays};
+ghost use Prim.Native.Nat.{ℕ, _*_};
+ghost use Rattle.rounds.specs.Round.{arrays, allTaken, startOf, roundOf, stepWays, pairWays, ruleWays};
 use model::Model;
 use model::Next;
 use table::Size;
@@ -75,6 +75,29 @@ fn rule<'a>(
         pair(heads, triples, rulerows, moverows, shows, size, r, v, k);
         v += 1;
     }
+}
+
+// How many heads a table has, and how many triples.
+pub fn head_count(size: Size) -> usize
+    ensures { λ n. ⌜ n ≡ size .states * size .symbols ⌝ }
+{
+    (size.states as usize) * (size.symbols as usize)
+}
+
+pub fn triple_count(size: Size) -> usize
+    ensures { λ n. ⌜ n ≡ size .states * size .symbols * size .states ⌝ }
+{
+    head_count(size) * (size.states as usize)
+}
+
+// Round 0: the start head alone.
+pub fn start(heads: &mut [u16], triples: &mut [u16], m: Model)
+    ensures { λ _. ⌜ arrays (now (heads .exit)) (now (triples .exit)) ≡ startOf m (arrays (now (heads .entry)) (now (triples .entry))) ⌝ }
+{
+    let size = Size { symbols: m.symbols, states: m.states };
+    table::clear(heads, head_count(size));
+    table::clear(triples, triple_count(size));
+    table::put_head(heads, size, m.startstate as usize, m.startsymbol as usize, 0);
 }
 
 // Round k: every rule with every move.
