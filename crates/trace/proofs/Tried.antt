@@ -3,7 +3,7 @@ use mathlib.Core.Bool.{Bool, true, false, cond, _&&_}
 use mathlib.Core.List.{List, [], _∷_, _++_}
 use mathlib.Core.Option.{Option, none, some}
 use mathlib.Core.Path.{_≡_, refl, sym, ap, _∙_}
-use Prim.Native.Nat.{ℕ}
+use Prim.Native.Nat.{ℕ, _<_}
 use lib.Dec.{ltb}
 use native.Mathlib.Omega.{arith}
 use borrow.Author.Tests.{eq-eqb, ne-eqb}
@@ -11,11 +11,21 @@ use Rattle.product.specs.Lists.{all, find}
 use Rattle.product.specs.Facts.{Fact, head, triple, Way, needs, same, leaves, enters, backs, returns, meets}
 use Rattle.product.specs.Rounds.{works}
 use Rattle.product.proofs.Lists.{all-append}
+use Rattle.model.specs.declared.Rule.{Rule}
+use Rattle.model.specs.declared.Next.{Next}
+use Rattle.model.specs.declared.Next.the-variants.{To, Stuck}
+use Rattle.model.specs.Model.{ruleAt, nextAt}
+use Rattle.model.specs.Answers.{ruleAs, meant, nextAs, landed}
+use Rattle.model.proofs.Answers.{meant-as}
+use Rattle.model.proofs.Bounds.{landed-as}
+use Rattle.trace.specs.declared.Goal.{Goal}
 use Rattle.trace.specs.declared.Cause.{Cause}
 use Rattle.trace.specs.declared.Found.{Found}
 use Rattle.trace.specs.declared.Found.the-variants.{By, Nowhere}
 use Rattle.trace.specs.Answers.{factIn, needsOf, ifHas, causeOf, foundAs}
-use Rattle.trace.specs.Search.{stepOf}
+use Rattle.trace.specs.Search.{stepOf, explains, source, chances, tried, triedAt, byMove, byRule, searched}
+use Rattle.trace.specs.First.{firstOf}
+use Rattle.trace.proofs.First.{first-here}
 
 and-true : (b : Bool) → (b && true) ≡ b
 and-true true = refl
@@ -105,3 +115,42 @@ module _ (h : Fact → Bool) (q g e : ℕ) {a y : ℕ} (w : Way) (is : w .gives 
 
   pub triple-it : a ≡ g → y ≡ e → {d : Found} → d ≡ cond (all h (needs w)) (By (causeOf w)) Nowhere → d ≡ foundAs (find (works h (triple q g e)) (w ∷ []))
   triple-it i j = gives h (triple q g e) w (triple-same (rw (eq-eqb q q refl, eq-eqb a g i, eq-eqb y e j)))
+
+-- what the answers say of the theory's
+pub found-none : (o : Option Way) {d : Found} → d ≡ foundAs o → d ≡ Nowhere → o ≡ none
+found-none none e i = refl
+found-none (some w) e i = let z : _≡_ {A = ℕ} 0 1 = cc in absurd (omega arith)
+
+pub found-some : (o : Option Way) {d : Found} {c : Cause} → d ≡ foundAs o → d ≡ By c → (w : Way) × (o ≡ some w) × (By c ≡ By (causeOf w))
+found-some none e i = let z : _≡_ {A = ℕ} 0 1 = cc in absurd (omega arith)
+found-some (some w) e i = (w, refl, sym i ∙ e)
+
+-- a rule and a move with a free state, by the state that they lead to
+module _ (rulerows moverows : List ℕ) (shows : List Bool) (h : Fact → Bool) (f : Goal) (r v x : ℕ) {q : ℕ} (from : q ≡ source f x) {n : Next}
+    (read : n ≡ nextAs (nextAt rulerows moverows shows r v q)) where
+  lands : nextAt rulerows moverows shows r v (source f x) ≡ landed n
+  lands = sym (ap landed (read ∙ ap (λ q. nextAs (nextAt rulerows moverows shows r v q)) from) ∙ landed-as (nextAt rulerows moverows shows r v (source f x)))
+
+  pub tried-stuck : n ≡ Stuck → Nowhere ≡ foundAs (triedAt rulerows moverows shows h f r v x)
+  tried-stuck i = ap (λ o. foundAs (tried h f (stepOf r v) x (ruleAt rulerows r) o)) (sym (lands ∙ ap landed i))
+
+  pub tried-to : {y : ℕ} → n ≡ To y → {ρ : Rule} → ρ ≡ ruleAs (ruleAt rulerows r) → {f′ : Goal} → f ≡ f′
+      → {d : Found} → d ≡ foundAs (find (explains h f′) (chances f′ (stepOf r v) x y (meant ρ))) → d ≡ foundAs (triedAt rulerows moverows shows h f r v x)
+  tried-to {y} i {ρ} k {f′} j e =
+      e
+      ∙ ap (λ f. foundAs (find (explains h f) (chances f (stepOf r v) x y (meant ρ)))) (sym j)
+      ∙ ap (λ ρ. foundAs (find (explains h f) (chances f (stepOf r v) x y ρ))) (ap meant k ∙ meant-as (ruleAt rulerows r))
+      ∙ ap (λ o. foundAs (tried h f (stepOf r v) x (ruleAt rulerows r) o)) (sym (lands ∙ ap landed i))
+
+-- the search comes to its end
+module _ (rulerows moverows : List ℕ) (shows : List Bool) (h : Fact → Bool) (f : Goal) (rules moves states r v x : ℕ) where
+  pub search-here : r < rules → firstOf (byRule rulerows moverows shows h f moves states) r ≡ none
+      → v < moves → firstOf (byMove rulerows moverows shows h f states r) v ≡ none
+      → x < states → firstOf (triedAt rulerows moverows shows h f r v) x ≡ none
+      → {d : Found} → d ≡ foundAs (triedAt rulerows moverows shows h f r v x) → {c : Cause} → d ≡ By c → By c ≡ foundAs (searched rulerows moverows shows h f rules moves states)
+  search-here i a j b k e read told =
+      let (w, is, by) = found-some (triedAt rulerows moverows shows h f r v x) read told in
+      by ∙ ap foundAs (sym
+      (first-here (byRule rulerows moverows shows h f moves states) rules r w i a
+      (first-here (byMove rulerows moverows shows h f states r) moves v w j b
+      (first-here (triedAt rulerows moverows shows h f r v) states x w k e is))))

@@ -60,6 +60,12 @@ module _ (rulerows moverows : List ℕ) (shows : List Bool) (h : Fact → Bool) 
   triedAt r v x =
       tried h f (stepOf r v) x (ruleAt rulerows r) (nextAt rulerows moverows shows r v (source f x))
 
-  -- the first rule, then the first move, then the lowest state
+  -- the lowest state; the first move, then the lowest state; the first rule, then the first move, then the lowest state
+  abbrev pub byMove : (states r v : ℕ) → Option Way
+  byMove states r v = firstOf (triedAt r v) states
+
+  abbrev pub byRule : (moves states r : ℕ) → Option Way
+  byRule moves states r = firstOf (byMove states r) moves
+
   abbrev pub searched : (rules moves states : ℕ) → Option Way
-  searched rules moves states = firstOf (λ r. firstOf (λ v. firstOf (λ x. triedAt r v x) states) moves) rules
+  searched rules moves states = firstOf (byRule moves states) rules
