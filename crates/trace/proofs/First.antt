@@ -1,7 +1,7 @@
 -- The answer at the lowest number that has one: how a loop comes to it, and how a list gathered over the numbers below n is searched. Assumes nothing.
 use mathlib.Core.Bool.{Bool, true, false, cond}
 use mathlib.Core.List.{List, [], _∷_, _++_}
-use mathlib.Core.Logic.{⊎-elim}
+use mathlib.Core.Logic.{⊎-elim, inl, inr}
 use mathlib.Core.Option.{Option, none, some}
 use mathlib.Core.Path.{_≡_, refl, sym, ap, ap₂, _∙_, subst, subst⁻¹}
 use Prim.Native.Nat.{ℕ, zero, suc, _+_, _<_, _≤_}
@@ -10,7 +10,7 @@ use native.Mathlib.Nat.{not-suc-le-zero, le-of-suc-le-suc, eq-or-lt-of-le}
 use native.Mathlib.Numerals.{add-one}
 use native.Mathlib.Omega.{arith}
 use lib.Dec.{T}
-use Rattle.product.specs.Lists.{upTo, over, each, find}
+use Rattle.product.specs.Lists.{upTo, over, each, find, _∈_}
 use Rattle.product.proofs.Lists.{over-suc, over-over}
 use Rattle.trace.specs.First.{orElse, firstOf}
 
@@ -76,16 +76,16 @@ module _ {A : Type 0} where
       go ih none u v = h n x (omega arith) v
       go ih (some y) u v = ih (u ∙ v)
 
-  pub find-elim : (p : A → Bool) (xs : List A) (x : A) → find p xs ≡ some x → T (p x)
+  pub find-elim : (p : A → Bool) (xs : List A) (x : A) → find p xs ≡ some x → (x ∈ xs) × T (p x)
   find-elim p [] x e = let z : _≡_ {A = ℕ} 0 1 = cc in absurd (omega arith)
   find-elim p (y ∷ xs) x e = go (find-elim p xs x) (p y) refl e
     where
-      back : some y ≡ some x → y ≡ x
+      back : some y ≡ some x → x ≡ y
       back e = cc
 
-      go : (find p xs ≡ some x → T (p x)) → (b : Bool) → p y ≡ b → cond b (some y) (find p xs) ≡ some x → T (p x)
-      go ih true u v = subst (λ z. T (p z)) (back v) (rw u tt)
-      go ih false u v = ih v
+      go : (find p xs ≡ some x → (x ∈ xs) × T (p x)) → (b : Bool) → p y ≡ b → cond b (some y) (find p xs) ≡ some x → (x ∈ (y ∷ xs)) × T (p x)
+      go ih true u v = (inl (back v), rw (back v, u) tt)
+      go ih false u v = let (i, t) = ih v in (inr i, t)
 
   -- a search through lists that are joined
   pub find-append : (p : A → Bool) (xs ys : List A) → find p (xs ++ ys) ≡ orElse (find p xs) (find p ys)

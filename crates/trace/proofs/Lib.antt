@@ -1,3 +1,6 @@
 pub mod First
 pub mod Tried
 pub mod Explained
+pub mod Wrote
+pub mod Falls
+pub mod Unfolds

@@ -1,3 +1,4 @@
 pub mod First
 pub mod Search
 pub mod Answers
+pub mod Unfold

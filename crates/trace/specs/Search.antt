@@ -69,3 +69,8 @@ module _ (rulerows moverows : List ℕ) (shows : List Bool) (h : Fact → Bool) 
 
   abbrev pub searched : (rules moves states : ℕ) → Option Way
   searched rules moves states = firstOf (byRule moves states) rules
+
+-- the explanation of a fact of rank k, in the two arrays
+abbrev pub whyIn : (rulerows moverows : List ℕ) → (shows : List Bool) → (symbols states : ℕ) → (heads triples : List ℕ) → (rules moves : ℕ) → ℕ → Goal → Option Way
+whyIn rulerows moverows shows symbols states heads triples rules moves k f =
+    searched rulerows moverows shows (below symbols states heads triples k) f rules moves states

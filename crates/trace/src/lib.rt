@@ -23,3 +23,4 @@ pub enum Found {
 }
 
 mod why;
+mod steps;

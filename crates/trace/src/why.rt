@@ -6,7 +6,7 @@ ghost use Rattle.product.specs.Facts.{enters, returns};
 ghost use Rattle.table.specs.Cells.{view};
 ghost use Rattle.trace.specs.Answers.{foundAs, rankOf, factIn, ifHas};
 ghost use Rattle.trace.specs.declared.Goal.the-variants.{Head, Triple};
-ghost use Rattle.trace.specs.Search.{below, stepOf, explains, source, chances, triedAt, searched};
+ghost use Rattle.trace.specs.Search.{below, stepOf, explains, source, chances, triedAt, whyIn};
 ghost use mathlib.Core.List.{[], _∷_};
 use crate::Cause;
 use crate::Found;
@@ -298,7 +298,7 @@ pub fn explain<'a>(
     k: u16,
     f: Goal,
 ) -> Found
-    ensures { λ w. ⌜ w ≡ foundAs (searched (now (rulerows .entry)) (now (moverows .entry)) (now (shows .entry)) (below (size .symbols) (size .states) (now (heads .entry)) (now (triples .entry)) k) f rules moves (size .states)) ⌝ }
+    ensures { λ w. ⌜ w ≡ foundAs (whyIn (now (rulerows .entry)) (now (moverows .entry)) (now (shows .entry)) (size .symbols) (size .states) (now (heads .entry)) (now (triples .entry)) rules moves k f) ⌝ }
 {
     let states = size.states as usize;
     let mut r: usize = 0;
