@@ -4,3 +4,5 @@ pub mod Explained
 pub mod Wrote
 pub mod Falls
 pub mod Unfolds
+pub mod Guilty
+pub mod Taken

@@ -2,3 +2,4 @@ pub mod First
 pub mod Search
 pub mod Answers
 pub mod Unfold
+pub mod Culprit

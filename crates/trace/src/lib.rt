@@ -24,3 +24,4 @@ pub enum Found {
 
 mod why;
 mod steps;
+mod culprit;
