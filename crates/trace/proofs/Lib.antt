@@ -6,3 +6,5 @@ pub mod Falls
 pub mod Unfolds
 pub mod Guilty
 pub mod Taken
+pub mod Ranked
+pub mod Laid
