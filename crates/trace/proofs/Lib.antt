@@ -8,3 +8,4 @@ pub mod Guilty
 pub mod Taken
 pub mod Ranked
 pub mod Laid
+pub mod Write

@@ -3,3 +3,4 @@ pub mod Search
 pub mod Answers
 pub mod Unfold
 pub mod Culprit
+pub mod Written
