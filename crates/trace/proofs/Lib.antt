@@ -1,0 +1,11 @@
+pub mod First
+pub mod Tried
+pub mod Explained
+pub mod Wrote
+pub mod Falls
+pub mod Unfolds
+pub mod Guilty
+pub mod Taken
+pub mod Ranked
+pub mod Laid
+pub mod Write

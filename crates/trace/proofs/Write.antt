@@ -1,0 +1,75 @@
+-- The trace of the violating fact is the trace of the verdict; and whether it fits. Assumes nothing.
+use mathlib.Core.List.{List}
+use mathlib.Core.Option.{Option, none, some}
+use mathlib.Core.Path.{_≡_, refl, sym, ap, _∙_, subst, subst⁻¹}
+use mathlib.Core.Bool.{_&&_}
+use Prim.Native.Nat.{ℕ, _+_, _<_, _≤_}
+use native.Mathlib.Omega.{arith}
+use lib.Dec.{T, leb}
+use borrow.Author.Tests.{le-leb, lt-leb}
+use lib.ListN.{length}
+use Rattle.product.specs.Lists.{each}
+use Rattle.product.specs.Product.{Product, Step, stored}
+use Rattle.product.specs.Facts.{Fact, head, triple, cells}
+use Rattle.product.specs.Rounds.{held}
+use Rattle.product.specs.Verdict.{violating, violation}
+use Rattle.product.specs.Table.{ranks}
+use Rattle.product.specs.Trace.{culprit, trace, traceTo, traceOf}
+use Rattle.product.proofs.Lists.{and-right, length-each}
+use Rattle.model.specs.declared.Model.{Model}
+use Rattle.model.specs.Model.{productOf}
+use Rattle.model.proofs.Bounds.{start-state-in, start-symbol-in}
+use Rattle.table.specs.Cells.{view}
+use Rattle.trace.specs.declared.Goal.{Goal}
+use Rattle.trace.specs.declared.Traced.{Traced}
+use Rattle.trace.specs.declared.Traced.the-variants.{Found, Cut}
+use Rattle.trace.specs.Answers.{goalOf}
+use Rattle.trace.specs.Search.{whyIn}
+use Rattle.trace.specs.Culprit.{goalAs, culpritIn}
+use Rattle.trace.specs.Unfold.{Wrote, HeldFor, stepsFor, Unfolded}
+use Rattle.trace.specs.Written.{Ranked, violationSteps, fitted, Written}
+use Rattle.trace.proofs.First.{find-elim}
+use Rattle.trace.proofs.Taken.{culprit-found}
+use Rattle.trace.proofs.Ranked.{explains-ranked}
+
+module _ (p : Product) (n : ℕ) where
+  goal-held : (o : Option Fact) → culprit p n ≡ o → HeldFor p n (goalAs o)
+  goal-held none e = tt
+  goal-held (some f) e = go f (and-right (violating p f) (held p n f) (find-elim (λ f. violating p f && held p n f) (cells p) f e .1))
+    where
+      go : (f : Fact) → T (held p n f) → HeldFor p n (goalOf f)
+      go (head q g) h = h
+      go (triple q g e) h = h
+
+  goal-trace : (o : Option Fact) → stepsFor (trace p n) (goalAs o) ≡ traceTo p n o
+  goal-trace none = refl
+  goal-trace (some (head q g)) = refl
+  goal-trace (some (triple q g e)) = refl
+
+module _ (m : Model) (n : ℕ) (hs ts : List ℕ) (R : Ranked m n hs ts) {f : Goal}
+    (taken : f ≡ goalAs (culpritIn (m .finals) (m .symbols) (m .states) hs ts (m .startstate) (m .startsymbol))) {room room′ : List ℕ} {at : ℕ}
+    (u : Unfolded (view (m .symbols) (m .states) hs ts) (whyIn (m .rulerows) (m .moverows) (m .shows) (m .symbols) (m .states) hs ts (m .rules) (m .moves)) f room 0 at room′) where
+  is-culprit : f ≡ goalAs (culprit (productOf m) n)
+  is-culprit = taken ∙ ap goalAs (culprit-found m hs ts (start-state-in m (R .valid-model)) (start-symbol-in m (R .valid-model)) n (R .small) (R .table))
+
+  wrote : Wrote room 0 (each (violationSteps m n) stored) at room′
+  wrote =
+      subst (λ (ss : List Step). Wrote room 0 (each ss stored) at room′) (ap (stepsFor (trace (productOf m) n)) is-culprit ∙ goal-trace (productOf m) n (culprit (productOf m) n))
+      (u .steps (productOf m) n (explains-ranked m (R .valid-model) n (R .small) hs ts (R .table)) (subst⁻¹ (HeldFor (productOf m) n) is-culprit (goal-held (productOf m) n (culprit (productOf m) n) refl)))
+
+  pub written-cut : {k : ℕ} → k ≡ length room → k < at → Written m n room (Cut n k) room′
+  written-cut {k} e l = record {
+    answer = 
+        let i : length room < length (violationSteps m n) = omega (arith, wrote .place, length-each (violationSteps m n) stored) in
+        rw (lt-leb (length (violationSteps m n)) (length room) i) (ap (Cut n) e);
+    cells = wrote .cells;
+  }
+
+  pub written-whole : {k : ℕ} → k ≡ length room → at ≤ k → Written m n room (Found n at) room′
+  written-whole {k} same l = record {
+    answer =
+        let e : at ≡ length (violationSteps m n) = omega (arith, wrote .place, length-each (violationSteps m n) stored) in
+        let i : length (violationSteps m n) ≤ length room = omega arith in
+        rw (le-leb (length (violationSteps m n)) (length room) i) (ap (Found n) e);
+    cells = wrote .cells;
+  }

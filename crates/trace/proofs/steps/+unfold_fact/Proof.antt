@@ -1,0 +1,245 @@
+use borrow.Author.Needs.{needs}
+use Rattle.table.specs.Cells.{view}
+use Rattle.trace.specs.Answers.{rankOf}
+use Rattle.trace.specs.Search.{whyIn}
+use Rattle.trace.proofs.Falls.{found-falls}
+use Rattle.trace.proofs.Unfolds.{unfolded-cut, unfolded-start, unfolded-none, unfolded-by}
+use native.Mathlib.Omega.{arith}
+use Prim.Native.Nat.{ℕ, _<_}
+use borrow.Fn.Kinds.{In}
+use borrow.Fn.PlainCycle.{Measures, is, falls, and}
+use Rattle.trace.proofs.steps.unfold_fact.Reads as unfold-fact
+use Rattle.trace.proofs.steps.unfold_fact.Kinds as unfold-fact-kinds
+use Rattle.trace.proofs.steps.+unfold_fact.Lts-unfold_fact as unfold-fact-lts
+use Rattle.trace.proofs.steps.put.Reads as put-reads
+use Rattle.trace.proofs.why.explain.Reads as explain-reads
+use Rattle.trace.proofs.why.rank_of.Reads as rank-of-reads
+use Rattle.trace.proofs.steps.+unfold_fact.{statement}
+use Rattle.trace.proofs.steps.+unfold_fact.Tie.{close}
+
+abbrev μ-unfold-fact : Measures 2 unfold-fact-kinds.ps ℕ
+μ-unfold-fact κs a = rankOf (view (a .1 .1 .1 .1 .1 .1 .0 .symbols) (a .1 .1 .1 .1 .1 .1 .0 .states) (a .1 .1 .1 .1 .0 .now) (a .1 .1 .1 .1 .1 .0 .now)) (a .1 .1 .1 .1 .1 .1 .1 .1 .1 .0)
+
+abbrev unfold-fact-at : ℕ → In 2 unfold-fact-kinds.ps
+unfold-fact-at t =
+    and 2 unfold-fact-kinds.ps (is 2 unfold-fact-kinds.ps μ-unfold-fact t) unfold-fact.Pre
+
+abbrev unfold-fact-below : ℕ → In 2 unfold-fact-kinds.ps
+unfold-fact-below t =
+    and 2 unfold-fact-kinds.ps (falls 2 unfold-fact-kinds.ps _<_ μ-unfold-fact t) unfold-fact.Pre
+
+-- src/steps.rt:33:9
+unfold-fact-returns : (t : ℕ) → unfold-fact-lts.Need-returns (
+  rank-of-reads.Asked,
+  rank-of-reads.Learnt,
+  explain-reads.Asked,
+  explain-reads.Learnt,
+  unfold-fact-below t,
+  unfold-fact.Post,
+  put-reads.Asked,
+  put-reads.Learnt,
+) (unfold-fact-at t) unfold-fact.Post
+unfold-fact-returns t c =
+    let a = c .before .before .before .before .args in
+    unfolded-cut (view (a .size .symbols) (a .size .states) (a .heads .now) (a .triples .now)) (whyIn (a .rulerows .now) (a .moverows .now) (a .shows .now) (a .size .symbols) (a .size .states) (a .heads .now) (a .triples .now) (a .rules) (a .moves)) (a .f) (c .if1 .taken) (c .before .before .before .before .pre .1 .place-in)
+
+-- src/steps.rt:35:9
+unfold-fact-rank-of-requires : (t : ℕ) → unfold-fact-lts.Need-rank-of-requires (
+  rank-of-reads.Asked,
+  rank-of-reads.Learnt,
+  explain-reads.Asked,
+  explain-reads.Learnt,
+  unfold-fact-below t,
+  unfold-fact.Post,
+  put-reads.Asked,
+  put-reads.Learnt,
+) (unfold-fact-at t) unfold-fact.Post
+unfold-fact-rank-of-requires t c κs = search needs
+
+-- src/steps.rt:37:9
+unfold-fact-returns-2 : (t : ℕ) → unfold-fact-lts.Need-returns-2 (
+  rank-of-reads.Asked,
+  rank-of-reads.Learnt,
+  explain-reads.Asked,
+  explain-reads.Learnt,
+  unfold-fact-below t,
+  unfold-fact.Post,
+  put-reads.Asked,
+  put-reads.Learnt,
+) (unfold-fact-at t) unfold-fact.Post
+unfold-fact-returns-2 t c =
+    let a = c .before .before .before .before .before .before .args in
+    unfolded-start (view (a .size .symbols) (a .size .states) (a .heads .now) (a .triples .now)) (whyIn (a .rulerows .now) (a .moverows .now) (a .shows .now) (a .size .symbols) (a .size .states) (a .heads .now) (a .triples .now) (a .rules) (a .moves)) (a .f) (c .before .before .before .before .before .before .pre .1 .place-in) (c .before .rank-of .ensures) (c .if2 .taken)
+
+-- src/steps.rt:39:9
+unfold-fact-explain-requires : (t : ℕ) → unfold-fact-lts.Need-explain-requires (
+  rank-of-reads.Asked,
+  rank-of-reads.Learnt,
+  explain-reads.Asked,
+  explain-reads.Learnt,
+  unfold-fact-below t,
+  unfold-fact.Post,
+  put-reads.Asked,
+  put-reads.Learnt,
+) (unfold-fact-at t) unfold-fact.Post
+unfold-fact-explain-requires t c κs = search needs
+
+-- src/steps.rt:41:27
+unfold-fact-enum-told : (t : ℕ) → unfold-fact-lts.Need-enum-told (
+  rank-of-reads.Asked,
+  rank-of-reads.Learnt,
+  explain-reads.Asked,
+  explain-reads.Learnt,
+  unfold-fact-below t,
+  unfold-fact.Post,
+  put-reads.Asked,
+  put-reads.Learnt,
+) (unfold-fact-at t) unfold-fact.Post
+unfold-fact-enum-told t c = search needs
+
+-- src/steps.rt:42:19
+unfold-fact-enum-known-w : (t : ℕ) → unfold-fact-lts.Need-enum-known-w (
+  rank-of-reads.Asked,
+  rank-of-reads.Learnt,
+  explain-reads.Asked,
+  explain-reads.Learnt,
+  unfold-fact-below t,
+  unfold-fact.Post,
+  put-reads.Asked,
+  put-reads.Learnt,
+) (unfold-fact-at t) unfold-fact.Post
+unfold-fact-enum-known-w t c = search needs
+
+-- src/steps.rt:46:17
+unfold-fact-unfold-fact-requires : (t : ℕ) → unfold-fact-lts.Need-unfold-fact-requires (
+  rank-of-reads.Asked,
+  rank-of-reads.Learnt,
+  explain-reads.Asked,
+  explain-reads.Learnt,
+  unfold-fact-below t,
+  unfold-fact.Post,
+  put-reads.Asked,
+  put-reads.Learnt,
+) (unfold-fact-at t) unfold-fact.Post
+unfold-fact-unfold-fact-requires t c κs =
+    let a = c .before .before .before .before .before .before .before .before .before .before .before .args in
+    let z = found-falls (a .rulerows .now) (a .moverows .now) (a .shows .now) (a .rules) (a .moves) (a .size .states) (view (a .size .symbols) (a .size .states) (a .heads .now) (a .triples .now)) (c .before .before .before .before .before .before .rank-of .result) (a .f) (c .before .before .before .before .before .if2 .left) (c .before .before .before .before .explain .ensures) (c .before .before .w .given .1) in
+    (omega (arith, z .before-lower, c .before .before .before .before .before .before .rank-of .ensures, c .before .before .before .before .before .before .before .before .before .before .before .pre .0), record { rules-in = c .before .before .before .before .before .before .before .before .before .before .before .pre .1 .rules-in; moves-in = c .before .before .before .before .before .before .before .before .before .before .before .pre .1 .moves-in; place-in = c .before .before .before .before .before .before .before .before .before .before .before .pre .1 .place-in })
+
+-- src/steps.rt:47:17
+unfold-fact-put-requires : (t : ℕ) → unfold-fact-lts.Need-put-requires (
+  rank-of-reads.Asked,
+  rank-of-reads.Learnt,
+  explain-reads.Asked,
+  explain-reads.Learnt,
+  unfold-fact-below t,
+  unfold-fact.Post,
+  put-reads.Asked,
+  put-reads.Learnt,
+) (unfold-fact-at t) unfold-fact.Post
+unfold-fact-put-requires t c κs =
+    let a = c .before .before .before .before .before .before .before .before .before .before .before .before .before .before .before .args in
+    let z = found-falls (a .rulerows .now) (a .moverows .now) (a .shows .now) (a .rules) (a .moves) (a .size .states) (view (a .size .symbols) (a .size .states) (a .heads .now) (a .triples .now)) (c .before .before .before .before .before .before .before .before .before .before .rank-of .result) (a .f) (c .before .before .before .before .before .before .before .before .before .if2 .left) (c .before .before .before .before .before .before .before .before .explain .ensures) (c .before .before .before .before .before .before .w .given .1) in
+    (omega (arith, z .rule-in, c .before .before .before .before .before .before .before .before .before .before .before .before .before .before .before .pre .1 .rules-in), omega (arith, z .move-in, c .before .before .before .before .before .before .before .before .before .before .before .before .before .before .before .pre .1 .moves-in))
+
+-- src/steps.rt:48:17
+unfold-fact-unfold-fact-requires-2 : (t : ℕ) → unfold-fact-lts.Need-unfold-fact-requires-2 (
+  rank-of-reads.Asked,
+  rank-of-reads.Learnt,
+  explain-reads.Asked,
+  explain-reads.Learnt,
+  unfold-fact-below t,
+  unfold-fact.Post,
+  put-reads.Asked,
+  put-reads.Learnt,
+) (unfold-fact-at t) unfold-fact.Post
+unfold-fact-unfold-fact-requires-2 t c κs =
+    let a = c .before .before .before .before .before .before .before .before .before .before .before .before .before .before .before .before .before .before .before .args in
+    let z = found-falls (a .rulerows .now) (a .moverows .now) (a .shows .now) (a .rules) (a .moves) (a .size .states) (view (a .size .symbols) (a .size .states) (a .heads .now) (a .triples .now)) (c .before .before .before .before .before .before .before .before .before .before .before .before .before .before .rank-of .result) (a .f) (c .before .before .before .before .before .before .before .before .before .before .before .before .before .if2 .left) (c .before .before .before .before .before .before .before .before .before .before .before .before .explain .ensures) (c .before .before .before .before .before .before .before .before .before .before .w .given .1) in
+    (omega (arith, z .first-lower, c .before .before .before .before .before .before .before .before .before .before .before .before .before .before .rank-of .ensures, c .before .before .before .before .before .before .before .before .before .before .before .before .before .before .before .before .before .before .before .pre .0), record { rules-in = c .before .before .before .before .before .before .before .before .before .before .before .before .before .before .before .before .before .before .before .pre .1 .rules-in; moves-in = c .before .before .before .before .before .before .before .before .before .before .before .before .before .before .before .before .before .before .before .pre .1 .moves-in; place-in = omega (arith, c .before .before .before .put .ensures .place, c .before .before .before .put .kept .0) })
+
+-- src/steps.rt:49:13
+unfold-fact-unfold-fact-requires-3 : (t : ℕ) → unfold-fact-lts.Need-unfold-fact-requires-3 (
+  rank-of-reads.Asked,
+  rank-of-reads.Learnt,
+  explain-reads.Asked,
+  explain-reads.Learnt,
+  unfold-fact-below t,
+  unfold-fact.Post,
+  put-reads.Asked,
+  put-reads.Learnt,
+) (unfold-fact-at t) unfold-fact.Post
+unfold-fact-unfold-fact-requires-3 t c κs =
+    let a = c .before .before .before .before .before .before .before .before .before .before .before .before .before .before .before .before .before .before .before .before .before .before .before .args in
+    let z = found-falls (a .rulerows .now) (a .moverows .now) (a .shows .now) (a .rules) (a .moves) (a .size .states) (view (a .size .symbols) (a .size .states) (a .heads .now) (a .triples .now)) (c .before .before .before .before .before .before .before .before .before .before .before .before .before .before .before .before .before .before .rank-of .result) (a .f) (c .before .before .before .before .before .before .before .before .before .before .before .before .before .before .before .before .before .if2 .left) (c .before .before .before .before .before .before .before .before .before .before .before .before .before .before .before .before .explain .ensures) (c .before .before .before .before .before .before .before .before .before .before .before .before .before .before .w .given .1) in
+    (omega (arith, z .second-lower, c .before .before .before .before .before .before .before .before .before .before .before .before .before .before .before .before .before .before .rank-of .ensures, c .before .before .before .before .before .before .before .before .before .before .before .before .before .before .before .before .before .before .before .before .before .before .before .pre .0), record { rules-in = c .before .before .before .before .before .before .before .before .before .before .before .before .before .before .before .before .before .before .before .before .before .before .before .pre .1 .rules-in; moves-in = c .before .before .before .before .before .before .before .before .before .before .before .before .before .before .before .before .before .before .before .before .before .before .before .pre .1 .moves-in; place-in = omega (arith, c .before .before .before .unfold-fact2 .ensures .within, c .before .before .before .unfold-fact2 .kept .0) })
+
+-- src/steps.rt:28:1
+unfold-fact-returns-3 : (t : ℕ) → unfold-fact-lts.Need-returns-3 (
+  rank-of-reads.Asked,
+  rank-of-reads.Learnt,
+  explain-reads.Asked,
+  explain-reads.Learnt,
+  unfold-fact-below t,
+  unfold-fact.Post,
+  put-reads.Asked,
+  put-reads.Learnt,
+) (unfold-fact-at t) unfold-fact.Post
+unfold-fact-returns-3 t c =
+    let a = c .before .before .before .before .before .before .before .before .before .args in
+    unfolded-none (view (a .size .symbols) (a .size .states) (a .heads .now) (a .triples .now)) (whyIn (a .rulerows .now) (a .moverows .now) (a .shows .now) (a .size .symbols) (a .size .states) (a .heads .now) (a .triples .now) (a .rules) (a .moves)) (a .f) (c .before .before .before .before .before .before .before .before .before .pre .1 .place-in) (c .before .before .before .before .rank-of .ensures) (c .before .before .before .if2 .left) (c .before .before .explain .ensures) (c .enum-told .given .1)
+
+-- src/steps.rt:28:1
+unfold-fact-same-length : (t : ℕ) → unfold-fact-lts.Need-same-length (
+  rank-of-reads.Asked,
+  rank-of-reads.Learnt,
+  explain-reads.Asked,
+  explain-reads.Learnt,
+  unfold-fact-below t,
+  unfold-fact.Post,
+  put-reads.Asked,
+  put-reads.Learnt,
+) (unfold-fact-at t) unfold-fact.Post
+unfold-fact-same-length t c = search needs
+
+-- src/steps.rt:28:1
+unfold-fact-returns-4 : (t : ℕ) → unfold-fact-lts.Need-returns-4 (
+  rank-of-reads.Asked,
+  rank-of-reads.Learnt,
+  explain-reads.Asked,
+  explain-reads.Learnt,
+  unfold-fact-below t,
+  unfold-fact.Post,
+  put-reads.Asked,
+  put-reads.Learnt,
+) (unfold-fact-at t) unfold-fact.Post
+unfold-fact-returns-4 t c =
+    let a = c .before .before .before .before .before .before .before .before .before .before .before .before .before .before .before .before .before .before .before .before .before .before .before .before .before .before .args in
+    unfolded-by (view (a .size .symbols) (a .size .states) (a .heads .now) (a .triples .now)) (whyIn (a .rulerows .now) (a .moverows .now) (a .shows .now) (a .size .symbols) (a .size .states) (a .heads .now) (a .triples .now) (a .rules) (a .moves)) (a .f) (c .before .before .before .before .before .before .before .before .before .before .before .before .before .before .before .before .before .before .before .before .before .before .before .before .before .before .pre .1 .place-in) (c .before .before .before .before .before .before .before .before .before .before .before .before .before .before .before .before .before .before .before .before .before .rank-of .ensures) (c .before .before .before .before .before .before .before .before .before .before .before .before .before .before .before .before .before .before .before .before .if2 .left) (c .before .before .before .before .before .before .before .before .before .before .before .before .before .before .before .before .before .before .before .explain .ensures) (c .before .before .before .before .before .before .before .before .before .before .before .before .before .before .before .before .before .w .given .1) (c .before .before .before .before .before .before .before .before .before .before .before .before .before .before .unfold-fact .ensures) (c .before .before .before .before .before .before .before .before .before .before .put .ensures) (c .before .before .before .before .before .before .unfold-fact2 .ensures) (c .before .before .unfold-fact3 .ensures) (omega (arith, c .before .before .unfold-fact3 .ensures .within, c .before .before .unfold-fact3 .kept .0))
+
+pub +unfold-fact-spec : {M : Type 1} → statement M
++unfold-fact-spec = close μ-unfold-fact λ t. unfold-fact-lts.spec (
+  rank-of-reads.Asked,
+  rank-of-reads.Learnt,
+  explain-reads.Asked,
+  explain-reads.Learnt,
+  unfold-fact-below t,
+  unfold-fact.Post,
+  put-reads.Asked,
+  put-reads.Learnt,
+)
+    (unfold-fact-at t)
+    unfold-fact.Post
+    (unfold-fact-returns t)
+    (unfold-fact-rank-of-requires t)
+    (unfold-fact-returns-2 t)
+    (unfold-fact-explain-requires t)
+    (unfold-fact-enum-told t)
+    (unfold-fact-enum-known-w t)
+    (unfold-fact-unfold-fact-requires t)
+    (unfold-fact-put-requires t)
+    (unfold-fact-unfold-fact-requires-2 t)
+    (unfold-fact-unfold-fact-requires-3 t)
+    (unfold-fact-returns-3 t)
+    (unfold-fact-same-length t)
+    (unfold-fact-returns-4 t)

@@ -1,0 +1,50 @@
+-- What an unfolding leaves in the room for steps: the steps from a place on, as far as they fit. Assumes nothing.
+use mathlib.Core.List.{List, []}
+use mathlib.Core.Option.{Option}
+use mathlib.Core.Path.{_≡_}
+use Prim.Native.Nat.{ℕ, suc, _+_, _≤_, _<_, min}
+use lib.Dec.{T}
+use lib.ListN.{length}
+use lib.Seq.{sets}
+use Rattle.product.specs.Lists.{each}
+use Rattle.product.specs.Product.{Product, Step, stored}
+use Rattle.product.specs.Facts.{Fact, head, triple, Way}
+use Rattle.product.specs.Rounds.{held}
+use Rattle.product.specs.Table.{Table, ranks}
+use Rattle.product.specs.Trace.{explanation, trace}
+use Rattle.trace.specs.declared.Goal.{Goal}
+use Rattle.trace.specs.declared.Goal.the-variants.{Head, Triple, Nothing}
+use Rattle.trace.specs.Answers.{goalOf}
+
+-- The numbers were written from the place on, and the place after them is given back; past the room nothing is written, and the place one after its
+-- end says that something was cut.
+pub record Wrote (room : List ℕ) (at : ℕ) (numbers : List ℕ) (r : ℕ) (room′ : List ℕ) : Type 0 where
+  pub place : r ≡ min (at + length numbers) (length room + 1)
+  pub cells : room′ ≡ sets room at numbers
+
+-- the numbers of rules and moves can be stored, and the place is one of the room
+pub record Storable (rules moves at room : ℕ) : Type 0 where
+  pub rules-in : rules ≤ 256
+  pub moves-in : moves ≤ 128
+  pub place-in : at ≤ room + 1
+
+-- the ranks of t are those of the product p up to round n, and the explanations of `why` are those of p
+pub record Explains (p : Product) (n : ℕ) (t : Table) (why : ℕ → Goal → Option Way) : Type 0 where
+  pub rank : (f : Fact) → T (held p n f) → t f ≡ ranks p n f
+  pub way : (k : ℕ) (f : Fact) → k < n → T (held p n f) → why (suc k) (goalOf f) ≡ explanation p k f
+
+-- the fact that is asked for is held after round n; and its steps
+abbrev pub HeldFor : Product → ℕ → Goal → Type 0
+HeldFor p n Nothing = Unit {0}
+HeldFor p n (Head q g) = T (held p n (head q g))
+HeldFor p n (Triple q g e) = T (held p n (triple q g e))
+
+abbrev pub stepsFor : (Fact → List Step) → Goal → List Step
+stepsFor t Nothing = []
+stepsFor t (Head q g) = t (head q g)
+stepsFor t (Triple q g e) = t (triple q g e)
+
+-- whatever product is explained, the trace of the fact was written
+pub record Unfolded (t : Table) (why : ℕ → Goal → Option Way) (f : Goal) (room : List ℕ) (at r : ℕ) (room′ : List ℕ) : Type 0 where
+  pub within : r ≤ length room + 1
+  pub steps : (p : Product) (n : ℕ) → Explains p n t why → HeldFor p n f → Wrote room at (each (stepsFor (trace p n) f) stored) r room′

@@ -1,0 +1,53 @@
+ghost use Rattle.trace.specs.Written.{Ranked, Written};
+use model::Model;
+// The trace: the explanation of a fact, found in the two arrays of ranks, and unfolded to the steps of a run.
+use table::Size;
+
+// A fact whose run is asked for: a head, a triple; or none is needed.
+pub enum Goal {
+    Nothing,
+    Head(usize, usize),
+    Triple(usize, usize, usize),
+}
+
+// An explanation: its rule and move, the head before the step, and the triples that are run after it.
+pub struct Cause {
+    pub rule: usize,
+    pub by: usize,
+    pub before: Goal,
+    pub first: Goal,
+    pub second: Goal,
+}
+
+pub enum Found {
+    By(Cause),
+    Nowhere,
+}
+
+// The answer of the call: the trace was found, with its rounds and steps; or a refusal, whose number specs/Outcome.antt says.
+pub enum Traced {
+    Found(u16, usize),
+    Invalid,
+    Short,
+    Spent(u32),
+    Safe(u16),
+    Cut(u16, usize),
+}
+
+mod why;
+mod steps;
+mod culprit;
+
+// The trace of a violation after n rounds, into the room.
+fn write_trace<'a>(room: &mut [u16], heads: &'a [u16], triples: &'a [u16], m: Model, n: u16) -> Traced
+    requires { ⌜ Ranked m n (now heads) (now triples) ⌝ }
+    ensures { λ r. ⌜ Written m n (now (room .entry)) r (now (room .exit)) ⌝ }
+{
+    let size = Size { symbols: m.symbols, states: m.states };
+    let f = culprit::culprit(&m.finals, heads, triples, size, m.startstate as usize, m.startsymbol as usize);
+    let at = steps::unfold_fact(room, &m.rulerows, &m.moverows, &m.shows, heads, triples, size, m.rules, m.moves, f, 0);
+    if room.len() < at {
+        return Traced::Cut(n, room.len());
+    }
+    Traced::Found(n, at)
+}
