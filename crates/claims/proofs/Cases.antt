@@ -9,7 +9,7 @@ use Rattle.product.specs.Trace.{trace}
 use Rattle.product.specs.Replay.{replayFrom, replay}
 use Rattle.product.specs.Check.{checked}
 use Rattle.model.specs.Valid.{valid}
-use Rattle.claims.specs.Cases.{cases, models}
+use Rattle.model.specs.Cases.{cases, models}
 
 pub cases-hold : each cases (λ c. c .given) ≡ each cases (λ c. c .said)
 unfolding cases grown violated adds answerFrom answer trace step replayFrom replay checked

@@ -1,3 +1,4 @@
 pub mod Model
 pub mod Answers
 pub mod Valid
+pub mod Cases
