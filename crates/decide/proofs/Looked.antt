@@ -1,23 +1,23 @@
 -- What is looked for in the arrays is what the rounds' definitions ask: a violating fact held, and a fact that the round has added. Assumes nothing.
-use mathlib.Core.Bool.{Bool, true, false, cond, not, _&&_, _||_, Bool·not-not}
+use mathlib.Core.Bool.{Bool, true, false, cond, not, _&&_, Bool·not-not}
 use mathlib.Core.List.{List}
 use mathlib.Core.Path.{_≡_, refl, sym, ap, _∙_, subst, subst⁻¹}
-use Prim.Native.Nat.{ℕ, zero, suc, _+_, _*_, _<_, _≤_, _/_, _%_}
+use Prim.Native.Nat.{ℕ, zero, suc, _+_, _*_, _<_, _/_, _%_}
 use native.Mathlib.Nat.{div-add-mod', div-lt-iff-lt-mul, mod-lt}
 use native.Mathlib.Omega.{arith}
 use lib.Arith.{digits-lt}
 use lib.Dec.{T, T-not, eqb, eqb→eq}
 use lib.ListN.{getD}
 use borrow.Author.Tests.{eq-eqb}
-use Rattle.product.specs.Lists.{upTo, all, _∈_}
+use Rattle.product.specs.Lists.{upTo, all}
 use Rattle.product.specs.Product.{Product, InRange}
-use Rattle.product.specs.Facts.{Fact, head, triple, first, same, cells}
-use Rattle.product.specs.Rounds.{grown, held}
+use Rattle.product.specs.Facts.{Fact, head, triple, first, cells}
+use Rattle.product.specs.Rounds.{held}
 use Rattle.product.specs.Table.{absent, present, ranks}
 use Rattle.product.specs.Verdict.{violating, violated, adds}
-use Rattle.product.proofs.Lists.{and-left, and-right, both, or-left, if-then, then-if, same-truth, some-of, any-of, all-of, All-upTo, upTo-lt, T-true}
-use Rattle.product.proofs.Rounds.{held-start, grown-later}
-use Rattle.product.proofs.Range.{Within, held-within, held-cell}
+use Rattle.product.proofs.Lists.{and-left, and-right, both, if-then, then-if, same-truth, some-of, any-of, all-of, All-upTo, upTo-lt}
+use Rattle.product.proofs.Rounds.{held-start}
+use Rattle.product.proofs.Range.{held-within, held-cell}
 use Rattle.product.proofs.Ranks.{ranks-rank, ranks-absent, present-held}
 use Rattle.product.proofs.Verdict.{violated-by}
 use Rattle.table.specs.Cells.{headCell, tripleCell, headIn, tripleIn}

@@ -21,7 +21,10 @@ fn run(heads: &mut [u16], triples: &mut [u16], m: Model, budget: u32) -> Decisio
     requires { ⌜ Ready m (now heads) (now triples) ⌝ }
     ensures { λ r. ⌜ Ran m budget (now (heads .entry)) (now (triples .entry)) r (now (heads .exit)) (now (triples .exit)) ⌝ }
 {
-    let size = Size { symbols: m.symbols, states: m.states };
+    let size = Size {
+        symbols: m.symbols,
+        states: m.states,
+    };
     let q = m.startstate as usize;
     let g = m.startsymbol as usize;
     rounds::start(heads, triples, m);
@@ -48,7 +51,10 @@ pub fn decide(m: Model, budget: u32, heads: &mut [u16], triples: &mut [u16]) -> 
     if !model::is_valid(m) {
         return Decision::Invalid;
     }
-    let size = Size { symbols: m.symbols, states: m.states };
+    let size = Size {
+        symbols: m.symbols,
+        states: m.states,
+    };
     if heads.len() < rounds::head_count(size) {
         return Decision::Short;
     }

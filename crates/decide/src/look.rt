@@ -74,13 +74,7 @@ fn end_clean<'a>(
 }
 
 // No triple of (q, g) into a final state is held.
-fn ends_clean<'a>(
-    triples: &'a [u16],
-    finals: &'a [bool; 8],
-    size: Size,
-    q: usize,
-    g: usize,
-) -> bool
+fn ends_clean<'a>(triples: &'a [u16], finals: &'a [bool; 8], size: Size, q: usize, g: usize) -> bool
     ensures { λ b. ⌜ b ≡ endsClean size (now (finals .entry)) (now (triples .entry)) q g ⌝ }
 {
     let states = size.states as usize;

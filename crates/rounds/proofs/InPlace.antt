@@ -1,12 +1,12 @@
 -- The arrays after a round hold the next table of ranks, and are unchanged past the table. Assumes nothing.
 use mathlib.Core.Bool.{Bool, true, false, cond, _&&_}
 use mathlib.Core.List.{List, [], _∷_}
-use mathlib.Core.Path.{_≡_, refl, sym, ap, _∙_, subst, fun-ext}
-use Prim.Native.Nat.{ℕ, zero, suc, _*_, _<_, _≤_}
+use mathlib.Core.Path.{_≡_, refl, ap, _∙_, subst}
+use Prim.Native.Nat.{ℕ, suc, _*_, _<_, _≤_}
 use native.Mathlib.Omega.{arith}
 use lib.Dec.{T, eqb, ltb, ltb→lt}
 use lib.ListN.{length, getD, drop}
-use Rattle.product.specs.Lists.{upTo, all, All}
+use Rattle.product.specs.Lists.{all, All}
 use Rattle.product.specs.Facts.{Fact, head, triple, same, first, Way, needs, ways, Leads}
 use Rattle.product.specs.Rounds.{grown}
 use Rattle.product.specs.Table.{Table, absent, ranks}
@@ -22,7 +22,7 @@ use Rattle.model.specs.Model.{productOf}
 use Rattle.model.specs.Valid.{valid}
 use Rattle.model.proofs.Valid.{product-in}
 use Rattle.model.proofs.Bounds.{start-state-in, start-symbol-in}
-use Rattle.rounds.specs.Round.{Arrays, tableOf, put, gained, lower, taken, allTaken, sizeOf, roundOf, startOf}
+use Rattle.rounds.specs.Round.{Arrays, tableOf, put, lower, taken, allTaken, sizeOf, roundOf, startOf}
 use Rattle.rounds.proofs.Applied.{apply, applyAll, ranks-next}
 
 -- the arrays are long enough for the table

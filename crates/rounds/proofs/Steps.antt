@@ -3,9 +3,9 @@ use mathlib.Core.Option.{Option}
 use mathlib.Core.Path.{_≡_, refl, sym, ap, _∙_}
 use Prim.Native.Nat.{ℕ}
 use Rattle.product.specs.Lists.{upTo, over, each}
-use Rattle.product.specs.Product as product
 use Rattle.product.specs.Product.{Step}
 use Rattle.product.specs.Facts.{triple, leaves, enters, backs, returns, meets, consequences}
+use Rattle.product.specs.Product as product
 use Rattle.table.specs.declared.Size.{Size}
 use Rattle.model.specs.declared.Rule.{Rule}
 use Rattle.model.specs.declared.Rule.the-variants.{Exit, Direct, Call}

@@ -94,10 +94,19 @@ pub fn triple_count(size: Size) -> usize
 pub fn start(heads: &mut [u16], triples: &mut [u16], m: Model)
     ensures { λ _. ⌜ arrays (now (heads .exit)) (now (triples .exit)) ≡ startOf m (arrays (now (heads .entry)) (now (triples .entry))) ⌝ }
 {
-    let size = Size { symbols: m.symbols, states: m.states };
+    let size = Size {
+        symbols: m.symbols,
+        states: m.states,
+    };
     table::clear(heads, head_count(size));
     table::clear(triples, triple_count(size));
-    table::put_head(heads, size, m.startstate as usize, m.startsymbol as usize, 0);
+    table::put_head(
+        heads,
+        size,
+        m.startstate as usize,
+        m.startsymbol as usize,
+        0,
+    );
 }
 
 // Round k: every rule with every move.

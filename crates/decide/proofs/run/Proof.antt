@@ -1,4 +1,4 @@
-use Rattle.decide.proofs.Going.{Going, from-start, ready-then, as-came, violates, is-safe, is-spent, room, next}
+use Rattle.decide.proofs.Going.{Going, from-start, violates, is-safe, is-spent, room, next}
 use Rattle.rounds.specs.Round.{arrays}
 use lib.ListN.{length}
 use Prim.Native.Nat.{_≤_, _-_}
@@ -34,7 +34,7 @@ start-requires c κs = search needs
 
 -- src/lib.rt:29:5
 loop-holds : tie.Need-loop-holds Inv-loop μ-loop
-loop-holds c = (omega arith, refl, refl, from-start (c .before .before .before .before .before .before .before .before .before .args .t3) (c .before .before .before .before .before .before .before .before .before .args .budget) (c .before .before .before .before .before .before .before .before .before .args .heads .now) (c .before .before .before .before .before .before .before .before .before .args .triples .now) (c .before .before .before .before .before .before .before .before .before .pre) (c .before .before .before .before .start .last .0) (c .before .before .before .before .start .last .1 .0) (c .before .before .before .before .start .ensures))
+loop-holds c = (omega arith, refl, refl, from-start (c .before .before .before .before .before .before .before .before .before .pre) (c .before .before .before .before .start .ensures) (c .before .before .before .before .before .before .before .before .before .args .budget))
 
 -- src/lib.rt:30:13
 clean-requires : tie.Need-clean-requires Inv-loop μ-loop
@@ -50,7 +50,7 @@ same-length-2 c = search needs
 
 -- src/lib.rt:31:13
 returns : tie.Need-returns Inv-loop μ-loop
-returns c = as-came (c .before .before .before .before .before .before .before .before .before .before .before .before .before .before .before .before .args .t3) (c .before .before .before .before .before .before .before .before .before .before .before .before .before .before .before .before .args .budget) (c .before .before .before .before .before .before .before .before .before .before .before .before .before .before .before .before .args .heads .now) (c .before .before .before .before .before .before .before .before .before .before .before .before .before .before .before .before .args .triples .now) (c .before .before .before .before .before .before .before .before .before .before .before .before .before .before .before .before .pre) (c .before .before .before .before .before .before .before .before .before .before .before .start .last .0) (c .before .before .before .before .before .before .before .before .before .before .before .start .last .1 .0) (c .before .before .before .before .before .before .before .before .before .before .before .start .ensures) (violates (c .before .before .before .before .before .before .before .before .before .before .before .before .before .before .before .before .args .t3) (c .before .before .before .before .before .before .before .before .before .before .before .before .before .before .before .before .args .budget) (c .before .before .before .before .before .before .before .before .before .before .before .start .last .0) (c .before .before .before .before .before .before .before .before .before .before .before .start .last .1 .0) (ready-then (c .before .before .before .before .before .before .before .before .before .before .before .before .before .before .before .before .args .t3) (c .before .before .before .before .before .before .before .before .before .before .before .before .before .before .before .before .args .budget) (c .before .before .before .before .before .before .before .before .before .before .before .before .before .before .before .before .args .heads .now) (c .before .before .before .before .before .before .before .before .before .before .before .before .before .before .before .before .args .triples .now) (c .before .before .before .before .before .before .before .before .before .before .before .before .before .before .before .before .pre) (c .before .before .before .before .before .before .before .before .before .before .before .start .last .0) (c .before .before .before .before .before .before .before .before .before .before .before .start .last .1 .0) (c .before .before .before .before .before .before .before .before .before .before .before .start .ensures)) (c .before .before .before .before .before .before .loop .n) (c .before .before .before .before .before .before .loop .heads) (c .before .before .before .before .before .before .loop .triples) (c .before .before .before .before .before .before .loop .inv .3) (c .before .clean .ensures) (c .if1 .taken))
+returns c = violates (c .before .before .before .before .before .before .before .before .before .before .before .before .before .before .before .before .pre) (c .before .before .before .before .before .before .before .before .before .before .before .start .ensures) (c .before .before .before .before .before .before .loop .inv .3) (c .before .clean .ensures) (c .if1 .taken)
 
 -- src/lib.rt:33:12
 quiet-requires : tie.Need-quiet-requires Inv-loop μ-loop
@@ -66,7 +66,7 @@ same-length-4 c = search needs
 
 -- src/lib.rt:34:13
 returns-2 : tie.Need-returns-2 Inv-loop μ-loop
-returns-2 c = as-came (c .before .before .before .before .before .before .before .before .before .before .before .before .before .before .before .before .before .before .before .before .args .t3) (c .before .before .before .before .before .before .before .before .before .before .before .before .before .before .before .before .before .before .before .before .args .budget) (c .before .before .before .before .before .before .before .before .before .before .before .before .before .before .before .before .before .before .before .before .args .heads .now) (c .before .before .before .before .before .before .before .before .before .before .before .before .before .before .before .before .before .before .before .before .args .triples .now) (c .before .before .before .before .before .before .before .before .before .before .before .before .before .before .before .before .before .before .before .before .pre) (c .before .before .before .before .before .before .before .before .before .before .before .before .before .before .before .start .last .0) (c .before .before .before .before .before .before .before .before .before .before .before .before .before .before .before .start .last .1 .0) (c .before .before .before .before .before .before .before .before .before .before .before .before .before .before .before .start .ensures) (is-safe (c .before .before .before .before .before .before .before .before .before .before .before .before .before .before .before .before .before .before .before .before .args .t3) (c .before .before .before .before .before .before .before .before .before .before .before .before .before .before .before .before .before .before .before .before .args .budget) (c .before .before .before .before .before .before .before .before .before .before .before .before .before .before .before .start .last .0) (c .before .before .before .before .before .before .before .before .before .before .before .before .before .before .before .start .last .1 .0) (ready-then (c .before .before .before .before .before .before .before .before .before .before .before .before .before .before .before .before .before .before .before .before .args .t3) (c .before .before .before .before .before .before .before .before .before .before .before .before .before .before .before .before .before .before .before .before .args .budget) (c .before .before .before .before .before .before .before .before .before .before .before .before .before .before .before .before .before .before .before .before .args .heads .now) (c .before .before .before .before .before .before .before .before .before .before .before .before .before .before .before .before .before .before .before .before .args .triples .now) (c .before .before .before .before .before .before .before .before .before .before .before .before .before .before .before .before .before .before .before .before .pre) (c .before .before .before .before .before .before .before .before .before .before .before .before .before .before .before .start .last .0) (c .before .before .before .before .before .before .before .before .before .before .before .before .before .before .before .start .last .1 .0) (c .before .before .before .before .before .before .before .before .before .before .before .before .before .before .before .start .ensures)) (c .before .before .before .before .before .before .before .before .before .before .loop .n) (c .before .before .before .before .before .before .before .before .before .before .loop .heads) (c .before .before .before .before .before .before .before .before .before .before .loop .triples) (c .before .before .before .before .before .before .before .before .before .before .loop .inv .3) (c .before .before .before .before .before .clean .ensures) (c .before .before .before .before .if1 .left) (c .before .quiet .ensures) (c .if2 .taken))
+returns-2 c = is-safe (c .before .before .before .before .before .before .before .before .before .before .before .before .before .before .before .before .before .before .before .before .pre) (c .before .before .before .before .before .before .before .before .before .before .before .before .before .before .before .start .ensures) (c .before .before .before .before .before .before .before .before .before .before .loop .inv .3) (c .before .before .before .before .before .clean .ensures) (c .before .before .before .before .if1 .left) (c .before .quiet .ensures) (c .if2 .taken)
 
 -- src/lib.rt:36:22
 cast-if3 : tie.Need-cast-if3 Inv-loop μ-loop
@@ -82,7 +82,7 @@ same-length-6 c = search needs
 
 -- src/lib.rt:37:13
 returns-3 : tie.Need-returns-3 Inv-loop μ-loop
-returns-3 c = as-came (c .before .before .before .before .before .before .before .before .before .before .before .before .before .before .before .before .before .before .before .before .before .args .t3) (c .before .before .before .before .before .before .before .before .before .before .before .before .before .before .before .before .before .before .before .before .before .args .budget) (c .before .before .before .before .before .before .before .before .before .before .before .before .before .before .before .before .before .before .before .before .before .args .heads .now) (c .before .before .before .before .before .before .before .before .before .before .before .before .before .before .before .before .before .before .before .before .before .args .triples .now) (c .before .before .before .before .before .before .before .before .before .before .before .before .before .before .before .before .before .before .before .before .before .pre) (c .before .before .before .before .before .before .before .before .before .before .before .before .before .before .before .before .start .last .0) (c .before .before .before .before .before .before .before .before .before .before .before .before .before .before .before .before .start .last .1 .0) (c .before .before .before .before .before .before .before .before .before .before .before .before .before .before .before .before .start .ensures) (is-spent (c .before .before .before .before .before .before .before .before .before .before .before .before .before .before .before .before .before .before .before .before .before .args .t3) (c .before .before .before .before .before .before .before .before .before .before .before .before .before .before .before .before .before .before .before .before .before .args .budget) (c .before .before .before .before .before .before .before .before .before .before .before .before .before .before .before .before .start .last .0) (c .before .before .before .before .before .before .before .before .before .before .before .before .before .before .before .before .start .last .1 .0) (ready-then (c .before .before .before .before .before .before .before .before .before .before .before .before .before .before .before .before .before .before .before .before .before .args .t3) (c .before .before .before .before .before .before .before .before .before .before .before .before .before .before .before .before .before .before .before .before .before .args .budget) (c .before .before .before .before .before .before .before .before .before .before .before .before .before .before .before .before .before .before .before .before .before .args .heads .now) (c .before .before .before .before .before .before .before .before .before .before .before .before .before .before .before .before .before .before .before .before .before .args .triples .now) (c .before .before .before .before .before .before .before .before .before .before .before .before .before .before .before .before .before .before .before .before .before .pre) (c .before .before .before .before .before .before .before .before .before .before .before .before .before .before .before .before .start .last .0) (c .before .before .before .before .before .before .before .before .before .before .before .before .before .before .before .before .start .last .1 .0) (c .before .before .before .before .before .before .before .before .before .before .before .before .before .before .before .before .start .ensures)) (c .before .before .before .before .before .before .before .before .before .before .before .loop .n) (c .before .before .before .before .before .before .before .before .before .before .before .loop .heads) (c .before .before .before .before .before .before .before .before .before .before .before .loop .triples) (c .before .before .before .before .before .before .before .before .before .before .before .loop .inv .3) (c .before .before .before .before .before .before .clean .ensures) (c .before .before .before .before .before .if1 .left) (c .before .before .quiet .ensures) (c .before .if2 .left) (c .if3 .taken))
+returns-3 c = is-spent (c .before .before .before .before .before .before .before .before .before .before .before .before .before .before .before .before .before .before .before .before .before .pre) (c .before .before .before .before .before .before .before .before .before .before .before .before .before .before .before .before .start .ensures) (c .before .before .before .before .before .before .before .before .before .before .before .loop .inv .3) (c .before .before .before .before .before .before .clean .ensures) (c .before .before .before .before .before .if1 .left) (c .before .before .quiet .ensures) (c .before .if2 .left) (c .if3 .taken)
 
 -- src/lib.rt:39:9
 add-n : tie.Need-add-n Inv-loop μ-loop
@@ -99,9 +99,15 @@ loop-less c = search needs
 -- src/lib.rt:29:5
 loop-again : tie.Need-loop-again Inv-loop μ-loop
 loop-again c = 
-    let l = room (c .before .before .before .before .before .before .before .before .before .before .before .before .before .before .before .before .before .before .before .before .before .before .before .before .before .before .before .before .args .t3) (c .before .before .before .before .before .before .before .before .before .before .before .before .before .before .before .before .before .before .before .before .before .before .before .before .before .before .before .before .args .budget) (c .before .before .before .before .before .before .before .before .before .before .before .before .before .before .before .before .before .before .before .before .before .before .before .start .last .0) (c .before .before .before .before .before .before .before .before .before .before .before .before .before .before .before .before .before .before .before .before .before .before .before .start .last .1 .0) (ready-then (c .before .before .before .before .before .before .before .before .before .before .before .before .before .before .before .before .before .before .before .before .before .before .before .before .before .before .before .before .args .t3) (c .before .before .before .before .before .before .before .before .before .before .before .before .before .before .before .before .before .before .before .before .before .before .before .before .before .before .before .before .args .budget) (c .before .before .before .before .before .before .before .before .before .before .before .before .before .before .before .before .before .before .before .before .before .before .before .before .before .before .before .before .args .heads .now) (c .before .before .before .before .before .before .before .before .before .before .before .before .before .before .before .before .before .before .before .before .before .before .before .before .before .before .before .before .args .triples .now) (c .before .before .before .before .before .before .before .before .before .before .before .before .before .before .before .before .before .before .before .before .before .before .before .before .before .before .before .before .pre) (c .before .before .before .before .before .before .before .before .before .before .before .before .before .before .before .before .before .before .before .before .before .before .before .start .last .0) (c .before .before .before .before .before .before .before .before .before .before .before .before .before .before .before .before .before .before .before .before .before .before .before .start .last .1 .0) (c .before .before .before .before .before .before .before .before .before .before .before .before .before .before .before .before .before .before .before .before .before .before .before .start .ensures)) (c .before .before .before .before .before .before .before .before .before .before .before .before .before .before .before .before .before .before .loop .n) (c .before .before .before .before .before .before .before .before .before .before .before .before .before .before .before .before .before .before .loop .heads) (c .before .before .before .before .before .before .before .before .before .before .before .before .before .before .before .before .before .before .loop .triples) (c .before .before .before .before .before .before .before .before .before .before .before .before .before .before .before .before .before .before .loop .inv .3) (c .before .before .before .before .before .before .before .before .before .before .before .before .before .clean .ensures) (c .before .before .before .before .before .before .before .before .before .before .before .before .if1 .left) (c .before .before .before .before .before .before .before .before .before .quiet .ensures) (c .before .before .before .before .before .before .before .before .if2 .left) in
-    (omega (arith, l), c .before .before .before .before .round .kept .0 ∙ c .before .before .before .before .before .before .before .before .before .before .before .before .before .before .before .before .before .before .loop .inv .1, c .before .before .before .before .round .kept .1 .0 ∙ c .before .before .before .before .before .before .before .before .before .before .before .before .before .before .before .before .before .before .loop .inv .2,
-    next (c .before .before .before .before .before .before .before .before .before .before .before .before .before .before .before .before .before .before .before .before .before .before .before .before .before .before .before .before .args .t3) (c .before .before .before .before .before .before .before .before .before .before .before .before .before .before .before .before .before .before .before .before .before .before .before .before .before .before .before .before .args .budget) (c .before .before .before .before .before .before .before .before .before .before .before .before .before .before .before .before .before .before .before .before .before .before .before .start .last .0) (c .before .before .before .before .before .before .before .before .before .before .before .before .before .before .before .before .before .before .before .before .before .before .before .start .last .1 .0) (ready-then (c .before .before .before .before .before .before .before .before .before .before .before .before .before .before .before .before .before .before .before .before .before .before .before .before .before .before .before .before .args .t3) (c .before .before .before .before .before .before .before .before .before .before .before .before .before .before .before .before .before .before .before .before .before .before .before .before .before .before .before .before .args .budget) (c .before .before .before .before .before .before .before .before .before .before .before .before .before .before .before .before .before .before .before .before .before .before .before .before .before .before .before .before .args .heads .now) (c .before .before .before .before .before .before .before .before .before .before .before .before .before .before .before .before .before .before .before .before .before .before .before .before .before .before .before .before .args .triples .now) (c .before .before .before .before .before .before .before .before .before .before .before .before .before .before .before .before .before .before .before .before .before .before .before .before .before .before .before .before .pre) (c .before .before .before .before .before .before .before .before .before .before .before .before .before .before .before .before .before .before .before .before .before .before .before .start .last .0) (c .before .before .before .before .before .before .before .before .before .before .before .before .before .before .before .before .before .before .before .before .before .before .before .start .last .1 .0) (c .before .before .before .before .before .before .before .before .before .before .before .before .before .before .before .before .before .before .before .before .before .before .before .start .ensures)) (c .before .before .before .before .before .before .before .before .before .before .before .before .before .before .before .before .before .before .loop .n) (c .before .before .before .before .before .before .before .before .before .before .before .before .before .before .before .before .before .before .loop .heads) (c .before .before .before .before .before .before .before .before .before .before .before .before .before .before .before .before .before .before .loop .triples) (c .before .before .before .before .before .before .before .before .before .before .before .before .before .before .before .before .before .before .loop .inv .3) (c .before .before .before .before .before .before .before .before .before .before .before .before .before .clean .ensures) (c .before .before .before .before .before .before .before .before .before .before .before .before .if1 .left) (c .before .before .before .before .before .before .before .before .before .quiet .ensures) (c .before .before .before .before .before .before .before .before .if2 .left) (c .before .before .before .before .before .before .before .if3 .left) (c .before .before .before .before .round .ensures))
+    let p = c .before .before .before .before .before .before .before .before .before .before .before .before .before .before .before .before .before .before .before .before .before .before .before .before .before .before .before .before .pre in
+    let s = c .before .before .before .before .before .before .before .before .before .before .before .before .before .before .before .before .before .before .before .before .before .before .before .start .ensures in
+    let g = c .before .before .before .before .before .before .before .before .before .before .before .before .before .before .before .before .before .before .loop .inv in
+    let l = c .before .before .before .before .before .before .before .before .before .before .before .before .before .clean .ensures in
+    let q = c .before .before .before .before .before .before .before .before .before .quiet .ensures in
+    (omega (arith, room p s (g .3) l (c .before .before .before .before .before .before .before .before .before .before .before .before .if1 .left) q (c .before .before .before .before .before .before .before .before .if2 .left)),
+    c .before .before .before .before .round .kept .0 ∙ g .1,
+    c .before .before .before .before .round .kept .1 .0 ∙ g .2,
+    next p s (g .3) l (c .before .before .before .before .before .before .before .before .before .before .before .before .if1 .left) q (c .before .before .before .before .before .before .before .before .if2 .left) (c .before .before .before .before .before .before .before .if3 .left) (c .before .before .before .before .round .ensures))
 
 pub run-spec : {M : Type 1} → statement M
 run-spec =

@@ -1,12 +1,12 @@
 -- `rounds::pair` meets its contract. Assumes nothing.
+use mathlib.Core.Path.{_≡_, refl, _∙_}
+use Prim.Native.Nat.{_≤_, _-_}
+use native.Mathlib.Omega.{arith}
+use lib.ListN.{length}
+use borrow.Author.Needs.{needs}
+use Rattle.product.specs.Lists.{upTo, over}
 use Rattle.rounds.proofs.Taken.{begins, turn, ended}
 use Rattle.rounds.specs.Round.{arrays, allTaken, stepWays}
-use Rattle.product.specs.Lists.{upTo, over}
-use Prim.Native.Nat.{_≤_, _-_}
-use lib.ListN.{length}
-use mathlib.Core.Path.{_≡_, refl, _∙_}
-use borrow.Author.Needs.{needs}
-use native.Mathlib.Omega.{arith}
 use Rattle.rounds.proofs.pair.Statement.{statement}
 use Rattle.rounds.proofs.pair.Tie as tie
 
@@ -20,7 +20,9 @@ cast-states : tie.Need-cast-states Inv-loop μ-loop
 cast-states c = search needs
 
 loop-holds : tie.Need-loop-holds Inv-loop μ-loop
-loop-holds c = (search needs, refl, refl, begins _ _ (stepWays (c .before .before .before .args .rulerows .now) (c .before .before .before .args .moverows .now) (c .before .before .before .args .shows .now) (c .before .before .before .args .size .states) (c .before .before .before .args .r) (c .before .before .before .args .v)) _)
+loop-holds c =
+    let a = c .before .before .before .args in
+    (search needs, refl, refl, begins _ _ (stepWays (a .rulerows .now) (a .moverows .now) (a .shows .now) (a .size .states) (a .r) (a .v)) _)
 
 step-requires : tie.Need-step-requires Inv-loop μ-loop
 step-requires c κs = search needs
@@ -32,7 +34,9 @@ loop-less : tie.Need-loop-less Inv-loop μ-loop
 loop-less c = search needs
 
 loop-again : tie.Need-loop-again Inv-loop μ-loop
-loop-again c = (search needs, c .before .before .before .before .step .kept .0 ∙ c .before .before .before .before .before .before .before .before .loop .inv .1, c .before .before .before .before .step .kept .1 .0 ∙ c .before .before .before .before .before .before .before .before .loop .inv .2, turn _ _ (stepWays (c .before .before .before .before .before .before .before .before .before .before .before .before .args .rulerows .now) (c .before .before .before .before .before .before .before .before .before .before .before .before .args .moverows .now) (c .before .before .before .before .before .before .before .before .before .before .before .before .args .shows .now) (c .before .before .before .before .before .before .before .before .before .before .before .before .args .size .states) (c .before .before .before .before .before .before .before .before .before .before .before .before .args .r) (c .before .before .before .before .before .before .before .before .before .before .before .before .args .v)) _ (c .before .before .before .before .before .before .before .before .loop .q) (c .before .before .before .before .before .before .before .before .loop .inv .3) (c .before .before .before .before .step .ensures))
+loop-again c =
+    let a = c .before .before .before .before .before .before .before .before .before .before .before .before .args in
+    (search needs, c .before .before .before .before .step .kept .0 ∙ c .before .before .before .before .before .before .before .before .loop .inv .1, c .before .before .before .before .step .kept .1 .0 ∙ c .before .before .before .before .before .before .before .before .loop .inv .2, turn _ _ (stepWays (a .rulerows .now) (a .moverows .now) (a .shows .now) (a .size .states) (a .r) (a .v)) _ (c .before .before .before .before .before .before .before .before .loop .q) (c .before .before .before .before .before .before .before .before .loop .inv .3) (c .before .before .before .before .step .ensures))
 
 same-length : tie.Need-same-length Inv-loop μ-loop
 same-length c = search needs
@@ -41,7 +45,9 @@ same-length-2 : tie.Need-same-length-2 Inv-loop μ-loop
 same-length-2 c = search needs
 
 returns : tie.Need-returns Inv-loop μ-loop
-returns c = ended _ _ (stepWays (c .before .before .before .before .before .args .rulerows .now) (c .before .before .before .before .before .args .moverows .now) (c .before .before .before .before .before .args .shows .now) (c .before .before .before .before .before .args .size .states) (c .before .before .before .before .before .args .r) (c .before .before .before .before .before .args .v)) _ (c .before .loop .q) (c .before .before .before .before .before .args .size .states) (omega arith) (omega arith) (c .before .loop .inv .3)
+returns c =
+    let a = c .before .before .before .before .before .args in
+    ended _ _ (stepWays (a .rulerows .now) (a .moverows .now) (a .shows .now) (a .size .states) (a .r) (a .v)) _ (c .before .loop .q) (a .size .states) (omega arith) (omega arith) (c .before .loop .inv .3)
 
 pub pair-spec : {M : Type 1} → statement M
 pair-spec =

@@ -1,12 +1,12 @@
 -- `rounds::rule` meets its contract. Assumes nothing.
+use mathlib.Core.Path.{_≡_, refl, _∙_}
+use Prim.Native.Nat.{_≤_, _-_}
+use native.Mathlib.Omega.{arith}
+use lib.ListN.{length}
+use borrow.Author.Needs.{needs}
+use Rattle.product.specs.Lists.{upTo, over}
 use Rattle.rounds.proofs.Taken.{begins, turn, ended}
 use Rattle.rounds.specs.Round.{arrays, allTaken, pairWays}
-use Rattle.product.specs.Lists.{upTo, over}
-use Prim.Native.Nat.{_≤_, _-_}
-use lib.ListN.{length}
-use mathlib.Core.Path.{_≡_, refl, _∙_}
-use borrow.Author.Needs.{needs}
-use native.Mathlib.Omega.{arith}
 use Rattle.rounds.proofs.rule.Statement.{statement}
 use Rattle.rounds.proofs.rule.Tie as tie
 
@@ -17,7 +17,9 @@ abbrev μ-loop : tie.MeasureT-loop
 μ-loop heads₀ triples₀ rulerows moverows shows moves size r k v₀ heads triples v = moves - v
 
 loop-holds : tie.Need-loop-holds Inv-loop μ-loop
-loop-holds c = (search needs, refl, refl, begins _ _ (pairWays (c .before .before .args .rulerows .now) (c .before .before .args .moverows .now) (c .before .before .args .shows .now) (c .before .before .args .size .states) (c .before .before .args .r)) _)
+loop-holds c =
+    let a = c .before .before .args in
+    (search needs, refl, refl, begins _ _ (pairWays (a .rulerows .now) (a .moverows .now) (a .shows .now) (a .size .states) (a .r)) _)
 
 pair-requires : tie.Need-pair-requires Inv-loop μ-loop
 pair-requires c κs = search needs
@@ -29,7 +31,9 @@ loop-less : tie.Need-loop-less Inv-loop μ-loop
 loop-less c = search needs
 
 loop-again : tie.Need-loop-again Inv-loop μ-loop
-loop-again c = (search needs, c .before .before .before .before .pair .kept .0 ∙ c .before .before .before .before .before .before .before .before .loop .inv .1, c .before .before .before .before .pair .kept .1 .0 ∙ c .before .before .before .before .before .before .before .before .loop .inv .2, turn _ _ (pairWays (c .before .before .before .before .before .before .before .before .before .before .before .args .rulerows .now) (c .before .before .before .before .before .before .before .before .before .before .before .args .moverows .now) (c .before .before .before .before .before .before .before .before .before .before .before .args .shows .now) (c .before .before .before .before .before .before .before .before .before .before .before .args .size .states) (c .before .before .before .before .before .before .before .before .before .before .before .args .r)) _ (c .before .before .before .before .before .before .before .before .loop .v) (c .before .before .before .before .before .before .before .before .loop .inv .3) (c .before .before .before .before .pair .ensures))
+loop-again c =
+    let a = c .before .before .before .before .before .before .before .before .before .before .before .args in
+    (search needs, c .before .before .before .before .pair .kept .0 ∙ c .before .before .before .before .before .before .before .before .loop .inv .1, c .before .before .before .before .pair .kept .1 .0 ∙ c .before .before .before .before .before .before .before .before .loop .inv .2, turn _ _ (pairWays (a .rulerows .now) (a .moverows .now) (a .shows .now) (a .size .states) (a .r)) _ (c .before .before .before .before .before .before .before .before .loop .v) (c .before .before .before .before .before .before .before .before .loop .inv .3) (c .before .before .before .before .pair .ensures))
 
 same-length : tie.Need-same-length Inv-loop μ-loop
 same-length c = search needs
@@ -38,7 +42,9 @@ same-length-2 : tie.Need-same-length-2 Inv-loop μ-loop
 same-length-2 c = search needs
 
 returns : tie.Need-returns Inv-loop μ-loop
-returns c = ended _ _ (pairWays (c .before .before .before .before .args .rulerows .now) (c .before .before .before .before .args .moverows .now) (c .before .before .before .before .args .shows .now) (c .before .before .before .before .args .size .states) (c .before .before .before .before .args .r)) _ (c .before .loop .v) (c .before .before .before .before .args .moves) (omega arith) (omega arith) (c .before .loop .inv .3)
+returns c =
+    let a = c .before .before .before .before .args in
+    ended _ _ (pairWays (a .rulerows .now) (a .moverows .now) (a .shows .now) (a .size .states) (a .r)) _ (c .before .loop .v) (a .moves) (omega arith) (omega arith) (c .before .loop .inv .3)
 
 pub rule-spec : {M : Type 1} → statement M
 rule-spec =

@@ -1,52 +1,36 @@
-use Rattle.rounds.proofs.Taken.{started}
-use native.Mathlib.Omega.{arith}
+-- `rounds::start` meets its contract. Assumes nothing.
 use borrow.Author.Needs.{needs}
+use Rattle.rounds.proofs.Taken.{started}
 use Rattle.rounds.proofs.start.Statement.{statement}
 use Rattle.rounds.proofs.start.Tie as tie
-use Rattle.rounds.proofs.start.Reads as reads
-use Rattle.rounds.proofs.start.Lts as lts
-use Rattle.rounds.proofs.head_count.Reads as head-count-reads
-use Rattle.rounds.proofs.triple_count.Reads as triple-count-reads
-use Rattle.table.proofs.clear.Reads as clear-reads
-use Rattle.table.proofs.put_head.Reads as put-head-reads
 
--- src/lib.rt:98:25
 head-count-requires : tie.Need-head-count-requires
 head-count-requires c κs = search needs
 
--- src/lib.rt:98:5
 clear-requires : tie.Need-clear-requires
 clear-requires c κs = search needs
 
--- src/lib.rt:99:27
 triple-count-requires : tie.Need-triple-count-requires
 triple-count-requires c κs = search needs
 
--- src/lib.rt:99:5
 clear-requires-2 : tie.Need-clear-requires-2
 clear-requires-2 c κs = search needs
 
--- src/lib.rt:100:34
 cast-put-head : tie.Need-cast-put-head
 cast-put-head c = search needs
 
--- src/lib.rt:100:57
 cast-put-head-2 : tie.Need-cast-put-head-2
 cast-put-head-2 c = search needs
 
--- src/lib.rt:100:5
 put-head-requires : tie.Need-put-head-requires
 put-head-requires c κs = search needs
 
--- src/lib.rt:94:1
 same-length : tie.Need-same-length
 same-length c = search needs
 
--- src/lib.rt:94:1
 same-length-2 : tie.Need-same-length-2
 same-length-2 c = search needs
 
--- src/lib.rt:94:1
 returns : tie.Need-returns
 returns c = started (c .before .before .before .before .before .before .before .before .before .before .before .before .before .before .before .before .before .before .args .m) _ _ (c .before .before .before .before .before .before .before .before .before .before .before .before .before .before .head-count .ensures) (c .before .before .before .before .before .before .before .before .before .triple-count .ensures) (c .before .before .before .before .before .before .before .before .before .before .before .before .before .clear .last .0) (c .before .before .before .before .before .before .before .before .before .before .before .before .before .clear .ensures) (c .before .before .before .before .before .before .before .before .clear2 .ensures) (c .before .before .put-head .ensures)
 

@@ -1,7 +1,7 @@
 -- `rounds::step` meets its contract. Assumes nothing.
+use borrow.Author.Needs.{needs}
 use Rattle.model.specs.Model.{ruleAt, nextAt}
 use Rattle.rounds.proofs.Steps.{goes, stays}
-use borrow.Author.Needs.{needs}
 use Rattle.rounds.proofs.step.Statement.{statement}
 use Rattle.rounds.proofs.step.Tie as tie
 
@@ -27,10 +27,14 @@ same-length-2 : tie.Need-same-length-2
 same-length-2 c = search needs
 
 returns : tie.Need-returns
-returns c = goes _ _ (record { by-rule = c .before .before .before .before .before .before .before .before .before .before .before .before .before .before .args .r; by-move = c .before .before .before .before .before .before .before .before .before .before .before .before .before .before .args .v }) _ (ruleAt (c .before .before .before .before .before .before .before .before .before .before .before .before .before .before .args .rulerows .now) (c .before .before .before .before .before .before .before .before .before .before .before .before .before .before .args .r)) (nextAt (c .before .before .before .before .before .before .before .before .before .before .before .before .before .before .args .rulerows .now) (c .before .before .before .before .before .before .before .before .before .before .before .before .before .before .args .moverows .now) (c .before .before .before .before .before .before .before .before .before .before .before .before .before .before .args .shows .now) (c .before .before .before .before .before .before .before .before .before .before .before .before .before .before .args .r) (c .before .before .before .before .before .before .before .before .before .before .before .before .before .before .args .v) (c .before .before .before .before .before .before .before .before .before .before .before .before .before .before .args .q)) _ (c .before .before .before .before .before .before .before .before .before .before .before .next-state .ensures) (c .before .before .before .before .before .before .before .before .before .next .given .1) (c .before .before .before .before .before .before .before .rule-at .ensures) (c .before .before .before .before .consequences .ensures _)
+returns c =
+    let a = c .before .before .before .before .before .before .before .before .before .before .before .before .before .before .args in
+    goes _ _ (record { by-rule = a .r; by-move = a .v }) _ (ruleAt (a .rulerows .now) (a .r)) (nextAt (a .rulerows .now) (a .moverows .now) (a .shows .now) (a .r) (a .v) (a .q)) _ (c .before .before .before .before .before .before .before .before .before .before .before .next-state .ensures) (c .before .before .before .before .before .before .before .before .before .next .given .1) (c .before .before .before .before .before .before .before .rule-at .ensures) (c .before .before .before .before .consequences .ensures _)
 
 returns-2 : tie.Need-returns-2
-returns-2 c = stays _ _ (record { by-rule = c .before .before .before .before .before .args .r; by-move = c .before .before .before .before .before .args .v }) _ (ruleAt (c .before .before .before .before .before .args .rulerows .now) (c .before .before .before .before .before .args .r)) (nextAt (c .before .before .before .before .before .args .rulerows .now) (c .before .before .before .before .before .args .moverows .now) (c .before .before .before .before .before .args .shows .now) (c .before .before .before .before .before .args .r) (c .before .before .before .before .before .args .v) (c .before .before .before .before .before .args .q)) _ (c .before .before .next-state .ensures) (c .enum-told .given .1)
+returns-2 c =
+    let a = c .before .before .before .before .before .args in
+    stays _ _ (record { by-rule = a .r; by-move = a .v }) _ (ruleAt (a .rulerows .now) (a .r)) (nextAt (a .rulerows .now) (a .moverows .now) (a .shows .now) (a .r) (a .v) (a .q)) _ (c .before .before .next-state .ensures) (c .enum-told .given .1)
 
 pub step-spec : {M : Type 1} → statement M
 step-spec =

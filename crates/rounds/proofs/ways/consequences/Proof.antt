@@ -1,84 +1,64 @@
-use Rattle.rounds.specs.Round.{arrays}
-use Rattle.rounds.proofs.Steps.{by-exit, by-direct, by-call}
-use native.Mathlib.Omega.{arith}
+-- `rounds::ways::consequences` meets its contract. Assumes nothing.
 use borrow.Author.Needs.{needs}
+use Rattle.rounds.proofs.Steps.{by-exit, by-direct, by-call}
+use Rattle.rounds.specs.Round.{arrays}
 use Rattle.rounds.proofs.ways.consequences.Statement.{statement}
 use Rattle.rounds.proofs.ways.consequences.Tie as tie
-use Rattle.rounds.proofs.ways.consequences.Reads as reads
-use Rattle.rounds.proofs.ways.consequences.Lts as lts
-use Rattle.rounds.proofs.ways.enter.Reads as enter-reads
-use Rattle.rounds.proofs.ways.gain_triple.Reads as gain-triple-reads
-use Rattle.rounds.proofs.ways.meet_all.Reads as meet-all-reads
-use Rattle.rounds.proofs.ways.pass_back.Reads as pass-back-reads
-use Rattle.rounds.proofs.ways.return_under.Reads as return-under-reads
 
--- src/ways.rt:194:20
 enum-known-rule : tie.Need-enum-known-rule
 enum-known-rule c = search needs
 
--- src/ways.rt:194:26
 gain-triple-requires : tie.Need-gain-triple-requires
 gain-triple-requires c κs = search needs
 
--- src/ways.rt:195:22
 enum-known-rule-2 : tie.Need-enum-known-rule-2
 enum-known-rule-2 c = search needs
 
--- src/ways.rt:196:13
 enter-requires : tie.Need-enter-requires
 enter-requires c κs = search needs
 
--- src/ways.rt:197:13
 pass-back-requires : tie.Need-pass-back-requires
 pass-back-requires c κs = search needs
 
--- src/ways.rt:199:20
 enum-known-rule-3 : tie.Need-enum-known-rule-3
 enum-known-rule-3 c = search needs
 
--- src/ways.rt:200:13
 enter-requires-2 : tie.Need-enter-requires-2
 enter-requires-2 c κs = search needs
 
--- src/ways.rt:201:13
 return-under-requires : tie.Need-return-under-requires
 return-under-requires c κs = search needs
 
--- src/ways.rt:202:13
 meet-all-requires : tie.Need-meet-all-requires
 meet-all-requires c κs = search needs
 
--- src/ways.rt:182:1
 same-length : tie.Need-same-length
 same-length c = search needs
 
--- src/ways.rt:182:1
 returns : tie.Need-returns
 returns c = λ s. by-exit _ _ s _ _ (c .before .before .before .before .before .before .before .before .before .args .rule) _ (c .before .before .before .before .before .rule .given .1) (c .before .before .gain-triple .ensures _)
 
--- src/ways.rt:182:1
 same-length-2 : tie.Need-same-length-2
 same-length-2 c = search needs
 
--- src/ways.rt:182:1
 same-length-3 : tie.Need-same-length-3
 same-length-3 c = search needs
 
--- src/ways.rt:182:1
 returns-2 : tie.Need-returns-2
-returns-2 c = λ s. by-direct _ _ s _ _ (c .before .before .before .before .before .before .before .before .before .before .before .before .before .args .rule) _ (arrays (c .before .before .before .before .before .before .enter .last .0) (c .before .before .before .before .before .before .before .before .before .before .before .before .before .args .triples .now)) (c .before .before .before .before .before .before .before .before .before .rule2 .given .1) (c .before .before .before .before .before .before .enter .ensures s _) (c .before .before .pass-back .ensures s _)
+returns-2 c =
+    let a = c .before .before .before .before .before .before .before .before .before .before .before .before .before .args in
+    λ s. by-direct _ _ s _ _ (a .rule) _ (arrays (c .before .before .before .before .before .before .enter .last .0) (a .triples .now)) (c .before .before .before .before .before .before .before .before .before .rule2 .given .1) (c .before .before .before .before .before .before .enter .ensures s _) (c .before .before .pass-back .ensures s _)
 
--- src/ways.rt:182:1
 same-length-4 : tie.Need-same-length-4
 same-length-4 c = search needs
 
--- src/ways.rt:182:1
 same-length-5 : tie.Need-same-length-5
 same-length-5 c = search needs
 
--- src/ways.rt:182:1
 returns-3 : tie.Need-returns-3
-returns-3 c = λ s. by-call _ _ s _ _ (c .before .before .before .before .before .before .before .before .before .before .before .before .before .before .before .before .before .before .args .rule) _ (arrays (c .before .before .before .before .before .before .before .before .before .before .before .enter2 .last .0) (c .before .before .before .before .before .before .before .before .before .before .before .before .before .before .before .before .before .before .args .triples .now)) (arrays (c .before .before .before .before .before .before .return-under .last .0) (c .before .before .before .before .before .before .before .before .before .before .before .before .before .before .before .before .before .before .args .triples .now)) (c .before .before .before .before .before .before .before .before .before .before .before .before .before .before .rule3 .given .1) (c .before .before .before .before .before .before .before .before .before .before .before .enter2 .ensures s _) (c .before .before .before .before .before .before .return-under .ensures s) (c .before .before .meet-all .ensures s _)
+returns-3 c =
+    let a = c .before .before .before .before .before .before .before .before .before .before .before .before .before .before .before .before .before .before .args in
+    λ s. by-call _ _ s _ _ (a .rule) _ (arrays (c .before .before .before .before .before .before .before .before .before .before .before .enter2 .last .0) (a .triples .now)) (arrays (c .before .before .before .before .before .before .return-under .last .0) (a .triples .now)) (c .before .before .before .before .before .before .before .before .before .before .before .before .before .before .rule3 .given .1) (c .before .before .before .before .before .before .before .before .before .before .before .enter2 .ensures s _) (c .before .before .before .before .before .before .return-under .ensures s) (c .before .before .meet-all .ensures s _)
 
 pub consequences-spec : {M : Type 1} → statement M
 consequences-spec =

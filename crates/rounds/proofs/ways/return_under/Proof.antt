@@ -1,19 +1,17 @@
-use lib.ListN.{length}
+-- `rounds::ways::return_under` meets its contract. Assumes nothing.
+use mathlib.Core.List.{[], _∷_}
 use mathlib.Core.Path.{_≡_, refl, _∙_}
+use Prim.Native.Nat.{_≤_, _-_}
+use native.Mathlib.Omega.{arith}
+use lib.ListN.{length}
+use borrow.Author.Needs.{needs}
 use Rattle.product.specs.Facts as facts
+use Rattle.product.specs.Lists.{upTo, each}
+use Rattle.product.specs.Product.{Step}
 use Rattle.rounds.proofs.Taken.{begins, turn, ended, one-taken}
 use Rattle.rounds.specs.Round.{arrays, allTaken}
-use Rattle.product.specs.Product.{Step}
-use Rattle.product.specs.Lists.{upTo, over, each}
-use Prim.Native.Nat.{ℕ, _≤_, _-_}
-use mathlib.Core.List.{List, [], _∷_}
-use borrow.Author.Needs.{needs}
-use native.Mathlib.Omega.{arith}
 use Rattle.rounds.proofs.ways.return_under.Statement.{statement}
 use Rattle.rounds.proofs.ways.return_under.Tie as tie
-use Rattle.rounds.proofs.ways.return_under.Reads as reads
-use Rattle.rounds.proofs.ways.return_under.Lts as lts
-use Rattle.rounds.proofs.ways.come_back.Reads as come-back-reads
 
 abbrev Inv-loop : tie.InvT-loop
 Inv-loop heads₀ triples size q g p g1 g2 k states e₀ heads e = (e ≤ states) × (length heads ≡ length heads₀) × ((s : Step) → arrays heads triples ≡ allTaken size k (each (upTo e) (facts.returns s q g p g1 g2)) (arrays heads₀ triples))
@@ -21,37 +19,35 @@ Inv-loop heads₀ triples size q g p g1 g2 k states e₀ heads e = (e ≤ states
 abbrev μ-loop : tie.MeasureT-loop
 μ-loop heads₀ triples size q g p g1 g2 k states e₀ heads e = states - e
 
--- src/ways.rt:103:18
 cast-states : tie.Need-cast-states Inv-loop μ-loop
 cast-states c = search needs
 
--- src/ways.rt:105:5
 loop-holds : tie.Need-loop-holds Inv-loop μ-loop
-loop-holds c = (search needs, refl, λ s. begins _ _ (λ e. facts.returns s (c .before .before .before .args .q) (c .before .before .before .args .g) (c .before .before .before .args .p) (c .before .before .before .args .g1) (c .before .before .before .args .g2) e ∷ []) _)
+loop-holds c =
+    let a = c .before .before .before .args in
+    (search needs, refl, λ s. begins _ _ (λ e. facts.returns s (a .q) (a .g) (a .p) (a .g1) (a .g2) e ∷ []) _)
 
--- src/ways.rt:106:9
 come-back-requires : tie.Need-come-back-requires Inv-loop μ-loop
 come-back-requires c κs = search needs
 
--- src/ways.rt:107:9
 add-e : tie.Need-add-e Inv-loop μ-loop
 add-e c = search needs
 
--- src/ways.rt:105:5
 loop-less : tie.Need-loop-less Inv-loop μ-loop
 loop-less c = search needs
 
--- src/ways.rt:105:5
 loop-again : tie.Need-loop-again Inv-loop μ-loop
-loop-again c = (search needs, c .before .before .come-back .kept .0 ∙ c .before .before .before .before .before .loop .inv .1, λ s. turn _ _ (λ e. facts.returns s (c .before .before .before .before .before .before .before .before .before .args .q) (c .before .before .before .before .before .before .before .before .before .args .g) (c .before .before .before .before .before .before .before .before .before .args .p) (c .before .before .before .before .before .before .before .before .before .args .g1) (c .before .before .before .before .before .before .before .before .before .args .g2) e ∷ []) _ (c .before .before .before .before .before .loop .e) (c .before .before .before .before .before .loop .inv .2 s) (one-taken _ _ _ _ (c .before .before .come-back .ensures s)))
+loop-again c =
+    let a = c .before .before .before .before .before .before .before .before .before .args in
+    (search needs, c .before .before .come-back .kept .0 ∙ c .before .before .before .before .before .loop .inv .1, λ s. turn _ _ (λ e. facts.returns s (a .q) (a .g) (a .p) (a .g1) (a .g2) e ∷ []) _ (c .before .before .before .before .before .loop .e) (c .before .before .before .before .before .loop .inv .2 s) (one-taken _ _ _ _ (c .before .before .come-back .ensures s)))
 
--- src/ways.rt:90:1
 same-length : tie.Need-same-length Inv-loop μ-loop
 same-length c = search needs
 
--- src/ways.rt:90:1
 returns : tie.Need-returns Inv-loop μ-loop
-returns c = λ s. ended _ _ (λ e. facts.returns s (c .before .before .before .before .before .args .q) (c .before .before .before .before .before .args .g) (c .before .before .before .before .before .args .p) (c .before .before .before .before .before .args .g1) (c .before .before .before .before .before .args .g2) e ∷ []) _ (c .before .loop .e) (c .before .before .before .before .before .args .size .states) (omega arith) (omega arith) (c .before .loop .inv .2 s)
+returns c =
+    let a = c .before .before .before .before .before .args in
+    λ s. ended _ _ (λ e. facts.returns s (a .q) (a .g) (a .p) (a .g1) (a .g2) e ∷ []) _ (c .before .loop .e) (a .size .states) (omega arith) (omega arith) (c .before .loop .inv .2 s)
 
 pub return-under-spec : {M : Type 1} → statement M
 return-under-spec =
