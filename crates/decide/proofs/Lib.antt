@@ -1,0 +1,5 @@
+pub mod Seen
+pub mod Looked
+pub mod Going
+pub mod Tested
+pub mod Coincide

@@ -1,0 +1,5 @@
+pub mod Taken
+pub mod Steps
+pub mod Rows
+pub mod Applied
+pub mod InPlace

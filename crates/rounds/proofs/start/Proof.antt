@@ -1,0 +1,50 @@
+-- `rounds::start` meets its contract. Assumes nothing.
+use borrow.Author.Needs.{needs}
+use Rattle.rounds.proofs.Taken.{started}
+use Rattle.rounds.proofs.start.Statement.{statement}
+use Rattle.rounds.proofs.start.Tie as tie
+
+head-count-requires : tie.Need-head-count-requires
+head-count-requires c κs = search needs
+
+clear-requires : tie.Need-clear-requires
+clear-requires c κs = search needs
+
+triple-count-requires : tie.Need-triple-count-requires
+triple-count-requires c κs = search needs
+
+clear-requires-2 : tie.Need-clear-requires-2
+clear-requires-2 c κs = search needs
+
+cast-put-head : tie.Need-cast-put-head
+cast-put-head c = search needs
+
+cast-put-head-2 : tie.Need-cast-put-head-2
+cast-put-head-2 c = search needs
+
+put-head-requires : tie.Need-put-head-requires
+put-head-requires c κs = search needs
+
+same-length : tie.Need-same-length
+same-length c = search needs
+
+same-length-2 : tie.Need-same-length-2
+same-length-2 c = search needs
+
+returns : tie.Need-returns
+returns c = started (c .before .before .before .before .before .before .before .before .before .before .before .before .before .before .before .before .before .before .args .m) _ _ (c .before .before .before .before .before .before .before .before .before .before .before .before .before .before .head-count .ensures) (c .before .before .before .before .before .before .before .before .before .triple-count .ensures) (c .before .before .before .before .before .before .before .before .before .before .before .before .before .clear .last .0) (c .before .before .before .before .before .before .before .before .before .before .before .before .before .clear .ensures) (c .before .before .before .before .before .before .before .before .clear2 .ensures) (c .before .before .put-head .ensures)
+
+pub start-spec : {M : Type 1} → statement M
+start-spec =
+    tie.close
+    (tie.spec
+    head-count-requires
+    clear-requires
+    triple-count-requires
+    clear-requires-2
+    cast-put-head
+    cast-put-head-2
+    put-head-requires
+    same-length
+    same-length-2
+    returns)
