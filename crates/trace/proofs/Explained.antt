@@ -43,7 +43,7 @@ module _ (h : Fact → Bool) (Q : ℕ) (s : Step) where
     by-head y (call a g1 g2) = ap (λ o. cond (P (enters s x a y g1)) (some (enters s x a y g1)) o)
         (find-append P (each (upTo Q) (returns s x a y g1 g2)) (over (upTo Q) (λ e. each (upTo Q) (meets s x a y g1 g2 e)))
         ∙ rw (find-one P Q q (returns s x a y g1 g2) in-range (λ e n. rw (ne-eqb e q n)), no-meets)
-          (or-none (find P (returns s x a y g1 g2 q ∷ []))))
+        (or-none (find P (returns s x a y g1 g2 q ∷ []))))
       where
         no-meets : find P (over (upTo Q) (λ e. each (upTo Q) (meets s x a y g1 g2 e))) ≡ none
         no-meets = find-over P Q (λ e. each (upTo Q) (meets s x a y g1 g2 e))
@@ -94,7 +94,7 @@ module _ (m : Model) (h : Fact → Bool) where
   by-step (head q g) l r v i j =
       find-over (works h (head q g)) (m .states) (λ x. waysTo (productOf m) (stepOf r v) x (productOf m .next (stepOf r v) x))
       ∙ first-same (λ x. find (works h (head q g)) (waysTo (productOf m) (stepOf r v) x (productOf m .next (stepOf r v) x)))
-          (triedAt (m .rulerows) (m .moverows) (m .shows) h (Head q g) r v) (m .states) λ x _.
+      (triedAt (m .rulerows) (m .moverows) (m .shows) h (Head q g) r v) (m .states) λ x _.
       at x (productOf m .next (stepOf r v) x)
       ∙ ap (tried h (Head q g) (stepOf r v) x (ruleOf (productOf m) (stepOf r v))) (next-rows m (stepOf r v) i j x)
     where

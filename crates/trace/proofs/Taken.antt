@@ -53,10 +53,10 @@ module _ (m : Model) (hs ts : List ℕ) where
   triples-found i j =
       find-over P (m .states) (λ q. over (upTo (m .symbols)) (λ g. triples q g))
       ∙ first-only (λ q. find P (over (upTo (m .symbols)) (λ g. triples q g))) (m .states) (m .startstate) i
-          (λ q n. find-over P (m .symbols) (triples q) ∙ first-idle (λ g. find P (triples q g)) (m .symbols) (λ g _. find-fails P (m .states) (triple q g) (other-state q n g)))
+      (λ q n. find-over P (m .symbols) (triples q) ∙ first-idle (λ g. find P (triples q g)) (m .symbols) (λ g _. find-fails P (m .states) (triple q g) (other-state q n g)))
       ∙ find-over P (m .symbols) (triples (m .startstate))
       ∙ first-only (λ g. find P (triples (m .startstate) g)) (m .symbols) (m .startsymbol) j
-          (λ g n. find-fails P (m .states) (triple (m .startstate) g) (other-symbol (m .startstate) g n))
+      (λ g n. find-fails P (m .states) (triple (m .startstate) g) (other-symbol (m .startstate) g n))
       ∙ find-over P (m .states) (λ e. triple (m .startstate) (m .startsymbol) e ∷ [])
       ∙ first-same (λ e. find P (triple (m .startstate) (m .startsymbol) e ∷ [])) (tripleAt (m .finals) (m .symbols) (m .states) ts (m .startstate) (m .startsymbol)) (m .states) (λ e _. its-own e)
 

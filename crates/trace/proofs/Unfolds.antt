@@ -129,8 +129,8 @@ module _ (p : Product) (n : ℕ) (t : Table) (why : ℕ → Goal → Option Way)
           first-held = first-of (HeldFor p n) tt (w .after) c;
           second-held = second-of (HeldFor p n) tt (w .after) c;
           runs =
-            ap (λ ss. each ss stored) (goal-steps (trace p n) f ∙ trace-by p n f k rank-of not-late ∙ ap (alongFound (trace p n)) x ∙ along-short (trace p n) w (All-at Short (ways p) (ways-short p) w i))
-            ∙ parts (stepsFor (trace p n) (firstIn (w .before))) (w .by) (stepsFor (trace p n) (firstIn (w .after))) (stepsFor (trace p n) (secondIn (w .after)));
+              ap (λ ss. each ss stored) (goal-steps (trace p n) f ∙ trace-by p n f k rank-of not-late ∙ ap (alongFound (trace p n)) x ∙ along-short (trace p n) w (All-at Short (ways p) (ways-short p) w i))
+              ∙ parts (stepsFor (trace p n) (firstIn (w .before))) (w .by) (stepsFor (trace p n) (firstIn (w .after))) (stepsFor (trace p n) (secondIn (w .after)));
         }
       where
         goal-held : (d : Fact) → T (held p k d) → HeldFor p n (goalOf d)

@@ -59,7 +59,7 @@ module _ (m : Model) (n : ℕ) (hs ts : List ℕ) (R : Ranked m n hs ts) {f : Go
 
   pub written-cut : {k : ℕ} → k ≡ length room → k < at → Written m n room (Cut n k) room′
   written-cut {k} e l = record {
-    answer = 
+    answer =
         let i : length room < length (violationSteps m n) = omega (arith, wrote .place, length-each (violationSteps m n) stored) in
         rw (lt-leb (length (violationSteps m n)) (length room) i) (ap (Cut n) e);
     cells = wrote .cells;

@@ -46,9 +46,10 @@ wrote-then {l} {at} {ss} {rs} {r} {r′} {l′} {l″} w v =
     record {
       place = omega (arith, length-append ss rs, wrote-length w, w .place, v .place);
       cells =
-        v .cells ∙ ap (λ (x : List ℕ). sets x r rs) (w .cells)
-        ∙ ⊎-elim
+          v .cells ∙ ap (λ (x : List ℕ). sets x r rs) (w .cells)
+          ∙ ⊎-elim
           (λ h. ap (λ (k : ℕ). sets (sets l at ss) k rs) (omega (arith, w .place)))
           (λ h. sets-out (sets l at ss) r rs (omega (arith, w .place, length-sets l at ss)) ∙ sym (sets-out (sets l at ss) (at + length ss) rs (omega (arith, length-sets l at ss))))
           (le-or-lt (at + length ss) (length l + 1))
-        ∙ sym (sets-append l at ss rs) }
+          ∙ sym (sets-append l at ss rs);
+    }

@@ -24,7 +24,14 @@ fn guilty_head<'a>(finals: &'a [bool; 8], heads: &'a [u16], size: Size, q: usize
     table::head_at(heads, size, q, g) != table::ABSENT
 }
 
-fn guilty_triple<'a>(finals: &'a [bool; 8], triples: &'a [u16], size: Size, q: usize, g: usize, e: usize) -> bool
+fn guilty_triple<'a>(
+    finals: &'a [bool; 8],
+    triples: &'a [u16],
+    size: Size,
+    q: usize,
+    g: usize,
+    e: usize,
+) -> bool
     ensures { λ b. ⌜ b ≡ guiltyTriple (now (finals .entry)) (size .symbols) (size .states) (now (triples .entry)) q g e ⌝ }
 {
     if !is_final(finals, e) {
@@ -56,7 +63,13 @@ fn some_head<'a>(finals: &'a [bool; 8], heads: &'a [u16], size: Size) -> Goal
 }
 
 // The first triple that is held from the state s and the symbol a into a final state.
-fn some_triple<'a>(finals: &'a [bool; 8], triples: &'a [u16], size: Size, s: usize, a: usize) -> Goal
+fn some_triple<'a>(
+    finals: &'a [bool; 8],
+    triples: &'a [u16],
+    size: Size,
+    s: usize,
+    a: usize,
+) -> Goal
     ensures { λ f. ⌜ f ≡ goalAs (someTriple (now (finals .entry)) (size .symbols) (size .states) (now (triples .entry)) s a) ⌝ }
 {
     let states = size.states as usize;
@@ -71,7 +84,14 @@ fn some_triple<'a>(finals: &'a [bool; 8], triples: &'a [u16], size: Size, s: usi
 }
 
 // The violating fact; s and a are the start state and the start symbol.
-pub fn culprit<'a>(finals: &'a [bool; 8], heads: &'a [u16], triples: &'a [u16], size: Size, s: usize, a: usize) -> Goal
+pub fn culprit<'a>(
+    finals: &'a [bool; 8],
+    heads: &'a [u16],
+    triples: &'a [u16],
+    size: Size,
+    s: usize,
+    a: usize,
+) -> Goal
     ensures { λ f. ⌜ f ≡ goalAs (culpritIn (now (finals .entry)) (size .symbols) (size .states) (now (heads .entry)) (now (triples .entry)) s a) ⌝ }
 {
     let f = some_head(finals, heads, size);

@@ -1,7 +1,14 @@
+// The trace: the explanation of a fact, found in the two arrays of ranks, and unfolded to the steps of a run.
 ghost use Rattle.trace.specs.Written.{Ranked, Written};
 use model::Model;
-// The trace: the explanation of a fact, found in the two arrays of ranks, and unfolded to the steps of a run.
 use table::Size;
+
+// How many symbols, states, rules and moves a model has.
+pub struct Counts {
+    pub size: Size,
+    pub rules: usize,
+    pub moves: usize,
+}
 
 // A fact whose run is asked for: a head, a triple; or none is needed.
 pub enum Goal {
@@ -34,18 +41,44 @@ pub enum Traced {
     Cut(u16, usize),
 }
 
-mod why;
-mod steps;
 mod culprit;
+mod steps;
+mod why;
 
 // The trace of a violation after n rounds, into the room.
-fn write_trace<'a>(room: &mut [u16], heads: &'a [u16], triples: &'a [u16], m: Model, n: u16) -> Traced
+fn write_trace<'a>(
+    room: &mut [u16],
+    heads: &'a [u16],
+    triples: &'a [u16],
+    m: Model,
+    n: u16,
+) -> Traced
     requires { ⌜ Ranked m n (now heads) (now triples) ⌝ }
     ensures { λ r. ⌜ Written m n (now (room .entry)) r (now (room .exit)) ⌝ }
 {
-    let size = Size { symbols: m.symbols, states: m.states };
-    let f = culprit::culprit(&m.finals, heads, triples, size, m.startstate as usize, m.startsymbol as usize);
-    let at = steps::unfold_fact(room, &m.rulerows, &m.moverows, &m.shows, heads, triples, size, m.rules, m.moves, f, 0);
+    let size = Size {
+        symbols: m.symbols,
+        states: m.states,
+    };
+    let q = m.startstate as usize;
+    let g = m.startsymbol as usize;
+    let f = culprit::culprit(&m.finals, heads, triples, size, q, g);
+    let counts = Counts {
+        size,
+        rules: m.rules,
+        moves: m.moves,
+    };
+    let at = steps::unfold_fact(
+        room,
+        &m.rulerows,
+        &m.moverows,
+        &m.shows,
+        heads,
+        triples,
+        counts,
+        f,
+        0,
+    );
     if room.len() < at {
         return Traced::Cut(n, room.len());
     }

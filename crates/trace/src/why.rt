@@ -9,6 +9,7 @@ ghost use Rattle.trace.specs.declared.Goal.the-variants.{Head, Triple};
 ghost use Rattle.trace.specs.Search.{below, stepOf, explains, source, chances, triedAt, whyIn};
 ghost use mathlib.Core.List.{[], _∷_};
 use crate::Cause;
+use crate::Counts;
 use crate::Found;
 use crate::Goal;
 use model::Next;
@@ -244,8 +245,8 @@ fn source(f: Goal, x: usize) -> usize
 
 // Rule r and move v, with the free state x.
 fn tried<'a>(
-    rulerows: &'a [u8; 1024],
-    moverows: &'a [u8; 384],
+    rules: &'a [u8; 1024],
+    moves: &'a [u8; 384],
     shows: &'a [bool; 512],
     heads: &'a [u16],
     triples: &'a [u16],
@@ -256,13 +257,13 @@ fn tried<'a>(
     v: usize,
     x: usize,
 ) -> Found
-    ensures { λ w. ⌜ w ≡ foundAs (triedAt (now (rulerows .entry)) (now (moverows .entry)) (now (shows .entry)) (below (size .symbols) (size .states) (now (heads .entry)) (now (triples .entry)) k) f r v x) ⌝ }
+    ensures { λ w. ⌜ w ≡ foundAs (triedAt (now (rules .entry)) (now (moves .entry)) (now (shows .entry)) (below (size .symbols) (size .states) (now (heads .entry)) (now (triples .entry)) k) f r v x) ⌝ }
 {
-    let next = model::next_state(rulerows, moverows, shows, r, v, source(f, x));
+    let next = model::next_state(rules, moves, shows, r, v, source(f, x));
     match next {
         Next::Stuck => Found::Nowhere,
         Next::To(y) => {
-            let rule = model::rule_at(rulerows, r);
+            let rule = model::rule_at(rules, r);
             match f {
                 Goal::Nothing => Found::Nowhere,
                 Goal::Head(q, g) => tried_head(heads, triples, size, k, q, g, r, v, x, y, rule),
@@ -287,42 +288,29 @@ fn tried<'a>(
 
 // The explanation of a fact of rank k: the first rule, then the first move, then the lowest state whose needed facts all have lower rank.
 pub fn explain<'a>(
-    rulerows: &'a [u8; 1024],
-    moverows: &'a [u8; 384],
+    rules: &'a [u8; 1024],
+    moves: &'a [u8; 384],
     shows: &'a [bool; 512],
     heads: &'a [u16],
     triples: &'a [u16],
-    size: Size,
-    rules: usize,
-    moves: usize,
+    n: Counts,
     k: u16,
     f: Goal,
 ) -> Found
-    ensures { λ w. ⌜ w ≡ foundAs (whyIn (now (rulerows .entry)) (now (moverows .entry)) (now (shows .entry)) (size .symbols) (size .states) (now (heads .entry)) (now (triples .entry)) rules moves k f) ⌝ }
+    ensures { λ w. ⌜ w ≡ foundAs (whyIn (now (rules .entry)) (now (moves .entry)) (now (shows .entry)) (n .size .symbols) (n .size .states) (now (heads .entry)) (now (triples .entry)) (n .rules) (n .moves) k f) ⌝ }
 {
+    let size = n.size;
     let states = size.states as usize;
     let mut r: usize = 0;
     'found: loop {
-        if rules <= r {
+        if n.rules <= r {
             break 'found Found::Nowhere;
         }
         let mut v: usize = 0;
-        'moves: while v < moves {
+        'moves: while v < n.moves {
             let mut x: usize = 0;
             'states: while x < states {
-                let w = tried(
-                    rulerows,
-                    moverows,
-                    shows,
-                    heads,
-                    triples,
-                    size,
-                    k,
-                    f,
-                    r,
-                    v,
-                    x,
-                );
+                let w = tried(rules, moves, shows, heads, triples, size, k, f, r, v, x);
                 if let Found::By(c) = w {
                     break 'found Found::By(c);
                 }

@@ -18,7 +18,7 @@ use Rattle.trace.proofs.steps.+unfold_fact.{statement}
 use Rattle.trace.proofs.steps.+unfold_fact.Tie.{close}
 
 abbrev μ-unfold-fact : Measures 2 unfold-fact-kinds.ps ℕ
-μ-unfold-fact κs a = rankOf (view (a .1 .1 .1 .1 .1 .1 .0 .symbols) (a .1 .1 .1 .1 .1 .1 .0 .states) (a .1 .1 .1 .1 .0 .now) (a .1 .1 .1 .1 .1 .0 .now)) (a .1 .1 .1 .1 .1 .1 .1 .1 .1 .0)
+μ-unfold-fact κs a = rankOf (view (a .1 .1 .1 .1 .1 .1 .0 .size .symbols) (a .1 .1 .1 .1 .1 .1 .0 .size .states) (a .1 .1 .1 .1 .0 .now) (a .1 .1 .1 .1 .1 .0 .now)) (a .1 .1 .1 .1 .1 .1 .1 .0)
 
 abbrev unfold-fact-at : ℕ → In 2 unfold-fact-kinds.ps
 unfold-fact-at t =
@@ -41,7 +41,7 @@ unfold-fact-returns : (t : ℕ) → unfold-fact-lts.Need-returns (
 ) (unfold-fact-at t) unfold-fact.Post
 unfold-fact-returns t c =
     let a = c .before .before .before .before .args in
-    unfolded-cut (view (a .size .symbols) (a .size .states) (a .heads .now) (a .triples .now)) (whyIn (a .rulerows .now) (a .moverows .now) (a .shows .now) (a .size .symbols) (a .size .states) (a .heads .now) (a .triples .now) (a .rules) (a .moves)) (a .f) (c .if1 .taken) (c .before .before .before .before .pre .1 .place-in)
+    unfolded-cut (view (a .n .size .symbols) (a .n .size .states) (a .heads .now) (a .triples .now)) (whyIn (a .rules .now) (a .moves .now) (a .shows .now) (a .n .size .symbols) (a .n .size .states) (a .heads .now) (a .triples .now) (a .n .rules) (a .n .moves)) (a .f) (c .if1 .taken) (c .before .before .before .before .pre .1 .place-in)
 
 -- src/steps.rt:35:9
 unfold-fact-rank-of-requires : (t : ℕ) → unfold-fact-lts.Need-rank-of-requires (
@@ -68,8 +68,8 @@ unfold-fact-returns-2 : (t : ℕ) → unfold-fact-lts.Need-returns-2 (
   put-reads.Learnt,
 ) (unfold-fact-at t) unfold-fact.Post
 unfold-fact-returns-2 t c =
-    let a = c .before .before .before .before .before .before .args in
-    unfolded-start (view (a .size .symbols) (a .size .states) (a .heads .now) (a .triples .now)) (whyIn (a .rulerows .now) (a .moverows .now) (a .shows .now) (a .size .symbols) (a .size .states) (a .heads .now) (a .triples .now) (a .rules) (a .moves)) (a .f) (c .before .before .before .before .before .before .pre .1 .place-in) (c .before .rank-of .ensures) (c .if2 .taken)
+    let a = c .before .before .before .before .before .before .before .args in
+    unfolded-start (view (a .n .size .symbols) (a .n .size .states) (a .heads .now) (a .triples .now)) (whyIn (a .rules .now) (a .moves .now) (a .shows .now) (a .n .size .symbols) (a .n .size .states) (a .heads .now) (a .triples .now) (a .n .rules) (a .n .moves)) (a .f) (c .before .before .before .before .before .before .before .pre .1 .place-in) (c .before .rank-of .ensures) (c .if2 .taken)
 
 -- src/steps.rt:39:9
 unfold-fact-explain-requires : (t : ℕ) → unfold-fact-lts.Need-explain-requires (
@@ -122,9 +122,9 @@ unfold-fact-unfold-fact-requires : (t : ℕ) → unfold-fact-lts.Need-unfold-fac
   put-reads.Learnt,
 ) (unfold-fact-at t) unfold-fact.Post
 unfold-fact-unfold-fact-requires t c κs =
-    let a = c .before .before .before .before .before .before .before .before .before .before .before .args in
-    let z = found-falls (a .rulerows .now) (a .moverows .now) (a .shows .now) (a .rules) (a .moves) (a .size .states) (view (a .size .symbols) (a .size .states) (a .heads .now) (a .triples .now)) (c .before .before .before .before .before .before .rank-of .result) (a .f) (c .before .before .before .before .before .if2 .left) (c .before .before .before .before .explain .ensures) (c .before .before .w .given .1) in
-    (omega (arith, z .before-lower, c .before .before .before .before .before .before .rank-of .ensures, c .before .before .before .before .before .before .before .before .before .before .before .pre .0), record { rules-in = c .before .before .before .before .before .before .before .before .before .before .before .pre .1 .rules-in; moves-in = c .before .before .before .before .before .before .before .before .before .before .before .pre .1 .moves-in; place-in = c .before .before .before .before .before .before .before .before .before .before .before .pre .1 .place-in })
+    let a = c .before .before .before .before .before .before .before .before .before .before .before .before .args in
+    let z = found-falls (a .rules .now) (a .moves .now) (a .shows .now) (a .n .rules) (a .n .moves) (a .n .size .states) (view (a .n .size .symbols) (a .n .size .states) (a .heads .now) (a .triples .now)) (c .before .before .before .before .before .before .rank-of .result) (a .f) (c .before .before .before .before .before .if2 .left) (c .before .before .before .before .explain .ensures) (c .before .before .w .given .1) in
+    (omega (arith, z .before-lower, c .before .before .before .before .before .before .rank-of .ensures, c .before .before .before .before .before .before .before .before .before .before .before .before .pre .0), record { rules-in = c .before .before .before .before .before .before .before .before .before .before .before .before .pre .1 .rules-in; moves-in = c .before .before .before .before .before .before .before .before .before .before .before .before .pre .1 .moves-in; place-in = c .before .before .before .before .before .before .before .before .before .before .before .before .pre .1 .place-in })
 
 -- src/steps.rt:47:17
 unfold-fact-put-requires : (t : ℕ) → unfold-fact-lts.Need-put-requires (
@@ -138,9 +138,9 @@ unfold-fact-put-requires : (t : ℕ) → unfold-fact-lts.Need-put-requires (
   put-reads.Learnt,
 ) (unfold-fact-at t) unfold-fact.Post
 unfold-fact-put-requires t c κs =
-    let a = c .before .before .before .before .before .before .before .before .before .before .before .before .before .before .before .args in
-    let z = found-falls (a .rulerows .now) (a .moverows .now) (a .shows .now) (a .rules) (a .moves) (a .size .states) (view (a .size .symbols) (a .size .states) (a .heads .now) (a .triples .now)) (c .before .before .before .before .before .before .before .before .before .before .rank-of .result) (a .f) (c .before .before .before .before .before .before .before .before .before .if2 .left) (c .before .before .before .before .before .before .before .before .explain .ensures) (c .before .before .before .before .before .before .w .given .1) in
-    (omega (arith, z .rule-in, c .before .before .before .before .before .before .before .before .before .before .before .before .before .before .before .pre .1 .rules-in), omega (arith, z .move-in, c .before .before .before .before .before .before .before .before .before .before .before .before .before .before .before .pre .1 .moves-in))
+    let a = c .before .before .before .before .before .before .before .before .before .before .before .before .before .before .before .before .args in
+    let z = found-falls (a .rules .now) (a .moves .now) (a .shows .now) (a .n .rules) (a .n .moves) (a .n .size .states) (view (a .n .size .symbols) (a .n .size .states) (a .heads .now) (a .triples .now)) (c .before .before .before .before .before .before .before .before .before .before .rank-of .result) (a .f) (c .before .before .before .before .before .before .before .before .before .if2 .left) (c .before .before .before .before .before .before .before .before .explain .ensures) (c .before .before .before .before .before .before .w .given .1) in
+    (omega (arith, z .rule-in, c .before .before .before .before .before .before .before .before .before .before .before .before .before .before .before .before .pre .1 .rules-in), omega (arith, z .move-in, c .before .before .before .before .before .before .before .before .before .before .before .before .before .before .before .before .pre .1 .moves-in))
 
 -- src/steps.rt:48:17
 unfold-fact-unfold-fact-requires-2 : (t : ℕ) → unfold-fact-lts.Need-unfold-fact-requires-2 (
@@ -154,9 +154,9 @@ unfold-fact-unfold-fact-requires-2 : (t : ℕ) → unfold-fact-lts.Need-unfold-f
   put-reads.Learnt,
 ) (unfold-fact-at t) unfold-fact.Post
 unfold-fact-unfold-fact-requires-2 t c κs =
-    let a = c .before .before .before .before .before .before .before .before .before .before .before .before .before .before .before .before .before .before .before .args in
-    let z = found-falls (a .rulerows .now) (a .moverows .now) (a .shows .now) (a .rules) (a .moves) (a .size .states) (view (a .size .symbols) (a .size .states) (a .heads .now) (a .triples .now)) (c .before .before .before .before .before .before .before .before .before .before .before .before .before .before .rank-of .result) (a .f) (c .before .before .before .before .before .before .before .before .before .before .before .before .before .if2 .left) (c .before .before .before .before .before .before .before .before .before .before .before .before .explain .ensures) (c .before .before .before .before .before .before .before .before .before .before .w .given .1) in
-    (omega (arith, z .first-lower, c .before .before .before .before .before .before .before .before .before .before .before .before .before .before .rank-of .ensures, c .before .before .before .before .before .before .before .before .before .before .before .before .before .before .before .before .before .before .before .pre .0), record { rules-in = c .before .before .before .before .before .before .before .before .before .before .before .before .before .before .before .before .before .before .before .pre .1 .rules-in; moves-in = c .before .before .before .before .before .before .before .before .before .before .before .before .before .before .before .before .before .before .before .pre .1 .moves-in; place-in = omega (arith, c .before .before .before .put .ensures .place, c .before .before .before .put .kept .0) })
+    let a = c .before .before .before .before .before .before .before .before .before .before .before .before .before .before .before .before .before .before .before .before .args in
+    let z = found-falls (a .rules .now) (a .moves .now) (a .shows .now) (a .n .rules) (a .n .moves) (a .n .size .states) (view (a .n .size .symbols) (a .n .size .states) (a .heads .now) (a .triples .now)) (c .before .before .before .before .before .before .before .before .before .before .before .before .before .before .rank-of .result) (a .f) (c .before .before .before .before .before .before .before .before .before .before .before .before .before .if2 .left) (c .before .before .before .before .before .before .before .before .before .before .before .before .explain .ensures) (c .before .before .before .before .before .before .before .before .before .before .w .given .1) in
+    (omega (arith, z .first-lower, c .before .before .before .before .before .before .before .before .before .before .before .before .before .before .rank-of .ensures, c .before .before .before .before .before .before .before .before .before .before .before .before .before .before .before .before .before .before .before .before .pre .0), record { rules-in = c .before .before .before .before .before .before .before .before .before .before .before .before .before .before .before .before .before .before .before .before .pre .1 .rules-in; moves-in = c .before .before .before .before .before .before .before .before .before .before .before .before .before .before .before .before .before .before .before .before .pre .1 .moves-in; place-in = omega (arith, c .before .before .before .put .ensures .place, c .before .before .before .put .kept .0) })
 
 -- src/steps.rt:49:13
 unfold-fact-unfold-fact-requires-3 : (t : ℕ) → unfold-fact-lts.Need-unfold-fact-requires-3 (
@@ -170,9 +170,9 @@ unfold-fact-unfold-fact-requires-3 : (t : ℕ) → unfold-fact-lts.Need-unfold-f
   put-reads.Learnt,
 ) (unfold-fact-at t) unfold-fact.Post
 unfold-fact-unfold-fact-requires-3 t c κs =
-    let a = c .before .before .before .before .before .before .before .before .before .before .before .before .before .before .before .before .before .before .before .before .before .before .before .args in
-    let z = found-falls (a .rulerows .now) (a .moverows .now) (a .shows .now) (a .rules) (a .moves) (a .size .states) (view (a .size .symbols) (a .size .states) (a .heads .now) (a .triples .now)) (c .before .before .before .before .before .before .before .before .before .before .before .before .before .before .before .before .before .before .rank-of .result) (a .f) (c .before .before .before .before .before .before .before .before .before .before .before .before .before .before .before .before .before .if2 .left) (c .before .before .before .before .before .before .before .before .before .before .before .before .before .before .before .before .explain .ensures) (c .before .before .before .before .before .before .before .before .before .before .before .before .before .before .w .given .1) in
-    (omega (arith, z .second-lower, c .before .before .before .before .before .before .before .before .before .before .before .before .before .before .before .before .before .before .rank-of .ensures, c .before .before .before .before .before .before .before .before .before .before .before .before .before .before .before .before .before .before .before .before .before .before .before .pre .0), record { rules-in = c .before .before .before .before .before .before .before .before .before .before .before .before .before .before .before .before .before .before .before .before .before .before .before .pre .1 .rules-in; moves-in = c .before .before .before .before .before .before .before .before .before .before .before .before .before .before .before .before .before .before .before .before .before .before .before .pre .1 .moves-in; place-in = omega (arith, c .before .before .before .unfold-fact2 .ensures .within, c .before .before .before .unfold-fact2 .kept .0) })
+    let a = c .before .before .before .before .before .before .before .before .before .before .before .before .before .before .before .before .before .before .before .before .before .before .before .before .args in
+    let z = found-falls (a .rules .now) (a .moves .now) (a .shows .now) (a .n .rules) (a .n .moves) (a .n .size .states) (view (a .n .size .symbols) (a .n .size .states) (a .heads .now) (a .triples .now)) (c .before .before .before .before .before .before .before .before .before .before .before .before .before .before .before .before .before .before .rank-of .result) (a .f) (c .before .before .before .before .before .before .before .before .before .before .before .before .before .before .before .before .before .if2 .left) (c .before .before .before .before .before .before .before .before .before .before .before .before .before .before .before .before .explain .ensures) (c .before .before .before .before .before .before .before .before .before .before .before .before .before .before .w .given .1) in
+    (omega (arith, z .second-lower, c .before .before .before .before .before .before .before .before .before .before .before .before .before .before .before .before .before .before .rank-of .ensures, c .before .before .before .before .before .before .before .before .before .before .before .before .before .before .before .before .before .before .before .before .before .before .before .before .pre .0), record { rules-in = c .before .before .before .before .before .before .before .before .before .before .before .before .before .before .before .before .before .before .before .before .before .before .before .before .pre .1 .rules-in; moves-in = c .before .before .before .before .before .before .before .before .before .before .before .before .before .before .before .before .before .before .before .before .before .before .before .before .pre .1 .moves-in; place-in = omega (arith, c .before .before .before .unfold-fact2 .ensures .within, c .before .before .before .unfold-fact2 .kept .0) })
 
 -- src/steps.rt:28:1
 unfold-fact-returns-3 : (t : ℕ) → unfold-fact-lts.Need-returns-3 (
@@ -186,8 +186,8 @@ unfold-fact-returns-3 : (t : ℕ) → unfold-fact-lts.Need-returns-3 (
   put-reads.Learnt,
 ) (unfold-fact-at t) unfold-fact.Post
 unfold-fact-returns-3 t c =
-    let a = c .before .before .before .before .before .before .before .before .before .args in
-    unfolded-none (view (a .size .symbols) (a .size .states) (a .heads .now) (a .triples .now)) (whyIn (a .rulerows .now) (a .moverows .now) (a .shows .now) (a .size .symbols) (a .size .states) (a .heads .now) (a .triples .now) (a .rules) (a .moves)) (a .f) (c .before .before .before .before .before .before .before .before .before .pre .1 .place-in) (c .before .before .before .before .rank-of .ensures) (c .before .before .before .if2 .left) (c .before .before .explain .ensures) (c .enum-told .given .1)
+    let a = c .before .before .before .before .before .before .before .before .before .before .args in
+    unfolded-none (view (a .n .size .symbols) (a .n .size .states) (a .heads .now) (a .triples .now)) (whyIn (a .rules .now) (a .moves .now) (a .shows .now) (a .n .size .symbols) (a .n .size .states) (a .heads .now) (a .triples .now) (a .n .rules) (a .n .moves)) (a .f) (c .before .before .before .before .before .before .before .before .before .before .pre .1 .place-in) (c .before .before .before .before .rank-of .ensures) (c .before .before .before .if2 .left) (c .before .before .explain .ensures) (c .enum-told .given .1)
 
 -- src/steps.rt:28:1
 unfold-fact-same-length : (t : ℕ) → unfold-fact-lts.Need-same-length (
@@ -214,8 +214,8 @@ unfold-fact-returns-4 : (t : ℕ) → unfold-fact-lts.Need-returns-4 (
   put-reads.Learnt,
 ) (unfold-fact-at t) unfold-fact.Post
 unfold-fact-returns-4 t c =
-    let a = c .before .before .before .before .before .before .before .before .before .before .before .before .before .before .before .before .before .before .before .before .before .before .before .before .before .before .args in
-    unfolded-by (view (a .size .symbols) (a .size .states) (a .heads .now) (a .triples .now)) (whyIn (a .rulerows .now) (a .moverows .now) (a .shows .now) (a .size .symbols) (a .size .states) (a .heads .now) (a .triples .now) (a .rules) (a .moves)) (a .f) (c .before .before .before .before .before .before .before .before .before .before .before .before .before .before .before .before .before .before .before .before .before .before .before .before .before .before .pre .1 .place-in) (c .before .before .before .before .before .before .before .before .before .before .before .before .before .before .before .before .before .before .before .before .before .rank-of .ensures) (c .before .before .before .before .before .before .before .before .before .before .before .before .before .before .before .before .before .before .before .before .if2 .left) (c .before .before .before .before .before .before .before .before .before .before .before .before .before .before .before .before .before .before .before .explain .ensures) (c .before .before .before .before .before .before .before .before .before .before .before .before .before .before .before .before .before .w .given .1) (c .before .before .before .before .before .before .before .before .before .before .before .before .before .before .unfold-fact .ensures) (c .before .before .before .before .before .before .before .before .before .before .put .ensures) (c .before .before .before .before .before .before .unfold-fact2 .ensures) (c .before .before .unfold-fact3 .ensures) (omega (arith, c .before .before .unfold-fact3 .ensures .within, c .before .before .unfold-fact3 .kept .0))
+    let a = c .before .before .before .before .before .before .before .before .before .before .before .before .before .before .before .before .before .before .before .before .before .before .before .before .before .before .before .args in
+    unfolded-by (view (a .n .size .symbols) (a .n .size .states) (a .heads .now) (a .triples .now)) (whyIn (a .rules .now) (a .moves .now) (a .shows .now) (a .n .size .symbols) (a .n .size .states) (a .heads .now) (a .triples .now) (a .n .rules) (a .n .moves)) (a .f) (c .before .before .before .before .before .before .before .before .before .before .before .before .before .before .before .before .before .before .before .before .before .before .before .before .before .before .before .pre .1 .place-in) (c .before .before .before .before .before .before .before .before .before .before .before .before .before .before .before .before .before .before .before .before .before .rank-of .ensures) (c .before .before .before .before .before .before .before .before .before .before .before .before .before .before .before .before .before .before .before .before .if2 .left) (c .before .before .before .before .before .before .before .before .before .before .before .before .before .before .before .before .before .before .before .explain .ensures) (c .before .before .before .before .before .before .before .before .before .before .before .before .before .before .before .before .before .w .given .1) (c .before .before .before .before .before .before .before .before .before .before .before .before .before .before .unfold-fact .ensures) (c .before .before .before .before .before .before .before .before .before .before .put .ensures) (c .before .before .before .before .before .before .unfold-fact2 .ensures) (c .before .before .unfold-fact3 .ensures) (omega (arith, c .before .before .unfold-fact3 .ensures .within, c .before .before .unfold-fact3 .kept .0))
 
 pub +unfold-fact-spec : {M : Type 1} → statement M
 +unfold-fact-spec = close μ-unfold-fact λ t. unfold-fact-lts.spec (

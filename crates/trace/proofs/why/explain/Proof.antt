@@ -15,22 +15,22 @@ use Rattle.trace.proofs.why.explain.Lts as lts
 use Rattle.trace.proofs.why.tried.Reads as tried-reads
 
 abbrev Inv-states : tie.InvT-states
-Inv-states rulerows moverows shows heads triples size rules moves k f states r v x₀ x = (x ≤ size .states) × (firstOf (triedAt rulerows moverows shows (below (size .symbols) (size .states) heads triples k) f r v) x ≡ none)
+Inv-states rules moves shows heads triples n k f size states r v x₀ x = (x ≤ n .size .states) × (firstOf (triedAt rules moves shows (below (n .size .symbols) (n .size .states) heads triples k) f r v) x ≡ none)
 
 abbrev μ-states : tie.MeasureT-states
-μ-states rulerows moverows shows heads triples size rules moves k f states r v x₀ x = size .states - x
+μ-states rules moves shows heads triples n k f size states r v x₀ x = n .size .states - x
 
 abbrev Inv-moves : tie.InvT-moves
-Inv-moves rulerows moverows shows heads triples size rules moves k f states r v₀ v = (v ≤ moves) × (firstOf (byMove rulerows moverows shows (below (size .symbols) (size .states) heads triples k) f (size .states) r) v ≡ none)
+Inv-moves rules moves shows heads triples n k f size states r v₀ v = (v ≤ n .moves) × (firstOf (byMove rules moves shows (below (n .size .symbols) (n .size .states) heads triples k) f (n .size .states) r) v ≡ none)
 
 abbrev μ-moves : tie.MeasureT-moves
-μ-moves rulerows moverows shows heads triples size rules moves k f states r v₀ v = moves - v
+μ-moves rules moves shows heads triples n k f size states r v₀ v = n .moves - v
 
 abbrev Inv-found : tie.InvT-found
-Inv-found rulerows moverows shows heads triples size rules moves k f states r₀ r = (r ≤ rules) × (firstOf (byRule rulerows moverows shows (below (size .symbols) (size .states) heads triples k) f moves (size .states)) r ≡ none)
+Inv-found rules moves shows heads triples n k f size states r₀ r = (r ≤ n .rules) × (firstOf (byRule rules moves shows (below (n .size .symbols) (n .size .states) heads triples k) f (n .moves) (n .size .states)) r ≡ none)
 
 abbrev μ-found : tie.MeasureT-found
-μ-found rulerows moverows shows heads triples size rules moves k f states r₀ r = rules - r
+μ-found rules moves shows heads triples n k f size states r₀ r = n .rules - r
 
 -- src/why.rt:161:18
 cast-states : tie.Need-cast-states Inv-states μ-states Inv-moves μ-moves Inv-found μ-found
@@ -73,8 +73,8 @@ states-less c = search needs
 -- src/why.rt:170:13
 states-again : tie.Need-states-again Inv-states μ-states Inv-moves μ-moves Inv-found μ-found
 states-again c =
-    let a = c .before .before .before .before .before .before .before .before .before .before .before .before .args in
-    (omega arith, first-more (triedAt (a .rulerows .now) (a .moverows .now) (a .shows .now) (below (a .size .symbols) (a .size .states) (a .heads .now) (a .triples .now) (a .k)) (a .f) (c .before .before .before .before .before .before .before .before .found .r) (c .before .before .before .before .before .before .moves .v)) (c .before .before .before .before .states .x) (c .before .before .before .before .states .inv .1) (found-none (triedAt (a .rulerows .now) (a .moverows .now) (a .shows .now) (below (a .size .symbols) (a .size .states) (a .heads .now) (a .triples .now) (a .k)) (a .f) (c .before .before .before .before .before .before .before .before .found .r) (c .before .before .before .before .before .before .moves .v) (c .before .before .before .before .states .x)) (c .before .before .tried .ensures) (c .enum-told .given .1)))
+    let a = c .before .before .before .before .before .before .before .before .before .before .before .before .before .before .before .args in
+    (omega arith, first-more (triedAt (a .rules .now) (a .moves .now) (a .shows .now) (below (a .n .size .symbols) (a .n .size .states) (a .heads .now) (a .triples .now) (a .k)) (a .f) (c .before .before .before .before .before .before .before .before .before .before .found .r) (c .before .before .before .before .before .before .before .moves .v)) (c .before .before .before .before .states .x) (c .before .before .before .before .states .inv .1) (found-none (triedAt (a .rules .now) (a .moves .now) (a .shows .now) (below (a .n .size .symbols) (a .n .size .states) (a .heads .now) (a .triples .now) (a .k)) (a .f) (c .before .before .before .before .before .before .before .before .before .before .found .r) (c .before .before .before .before .before .before .before .moves .v) (c .before .before .before .before .states .x)) (c .before .before .tried .ensures) (c .enum-told .given .1)))
 
 -- src/why.rt:177:13
 add-v : tie.Need-add-v Inv-states μ-states Inv-moves μ-moves Inv-found μ-found
@@ -87,8 +87,8 @@ moves-less c = search needs
 -- src/why.rt:168:9
 moves-again : tie.Need-moves-again Inv-states μ-states Inv-moves μ-moves Inv-found μ-found
 moves-again c =
-    let a = c .before .before .before .before .before .before .before .before .before .args in
-    (omega arith, first-more (byMove (a .rulerows .now) (a .moverows .now) (a .shows .now) (below (a .size .symbols) (a .size .states) (a .heads .now) (a .triples .now) (a .k)) (a .f) (a .size .states) (c .before .before .before .before .before .found .r)) (c .before .before .before .moves .v) (c .before .before .before .moves .inv .1) (first-done (triedAt (a .rulerows .now) (a .moverows .now) (a .shows .now) (below (a .size .symbols) (a .size .states) (a .heads .now) (a .triples .now) (a .k)) (a .f) (c .before .before .before .before .before .found .r) (c .before .before .before .moves .v)) (a .size .states) (c .before .states .x) (c .before .states .inv .0) (omega arith) (c .before .states .inv .1)))
+    let a = c .before .before .before .before .before .before .before .before .before .before .before .before .args in
+    (omega arith, first-more (byMove (a .rules .now) (a .moves .now) (a .shows .now) (below (a .n .size .symbols) (a .n .size .states) (a .heads .now) (a .triples .now) (a .k)) (a .f) (a .n .size .states) (c .before .before .before .before .before .before .before .found .r)) (c .before .before .before .before .moves .v) (c .before .before .before .before .moves .inv .1) (first-done (triedAt (a .rules .now) (a .moves .now) (a .shows .now) (below (a .n .size .symbols) (a .n .size .states) (a .heads .now) (a .triples .now) (a .k)) (a .f) (c .before .before .before .before .before .before .before .found .r) (c .before .before .before .before .moves .v)) (a .n .size .states) (c .before .states .x) (c .before .states .inv .0) (omega arith) (c .before .states .inv .1)))
 
 -- src/why.rt:179:9
 add-r : tie.Need-add-r Inv-states μ-states Inv-moves μ-moves Inv-found μ-found
@@ -101,20 +101,20 @@ found-less c = search needs
 -- src/why.rt:163:5
 found-again : tie.Need-found-again Inv-states μ-states Inv-moves μ-moves Inv-found μ-found
 found-again c =
-    let a = c .before .before .before .before .before .before .before .args in
-    (omega arith, first-more (byRule (a .rulerows .now) (a .moverows .now) (a .shows .now) (below (a .size .symbols) (a .size .states) (a .heads .now) (a .triples .now) (a .k)) (a .f) (a .moves) (a .size .states)) (c .before .before .before .found .r) (c .before .before .before .found .inv .1) (first-done (byMove (a .rulerows .now) (a .moverows .now) (a .shows .now) (below (a .size .symbols) (a .size .states) (a .heads .now) (a .triples .now) (a .k)) (a .f) (a .size .states) (c .before .before .before .found .r)) (a .moves) (c .before .moves .v) (c .before .moves .inv .0) (omega arith) (c .before .moves .inv .1)))
+    let a = c .before .before .before .before .before .before .before .before .before .before .args in
+    (omega arith, first-more (byRule (a .rules .now) (a .moves .now) (a .shows .now) (below (a .n .size .symbols) (a .n .size .states) (a .heads .now) (a .triples .now) (a .k)) (a .f) (a .n .moves) (a .n .size .states)) (c .before .before .before .before .before .found .r) (c .before .before .before .before .before .found .inv .1) (first-done (byMove (a .rules .now) (a .moves .now) (a .shows .now) (below (a .n .size .symbols) (a .n .size .states) (a .heads .now) (a .triples .now) (a .k)) (a .f) (a .n .size .states) (c .before .before .before .before .before .found .r)) (a .n .moves) (c .before .before .moves .v) (c .before .before .moves .inv .0) (omega arith) (c .before .before .moves .inv .1)))
 
 -- src/why.rt:158:1
 returns : tie.Need-returns Inv-states μ-states Inv-moves μ-moves Inv-found μ-found
 returns c =
-    let a = c .before .before .before .before .before .args in
-    sym (ap foundAs (first-done (byRule (a .rulerows .now) (a .moverows .now) (a .shows .now) (below (a .size .symbols) (a .size .states) (a .heads .now) (a .triples .now) (a .k)) (a .f) (a .moves) (a .size .states)) (a .rules) (c .before .found .r) (c .before .found .inv .0) (c .if1 .taken) (c .before .found .inv .1)))
+    let a = c .before .before .before .before .before .before .before .args in
+    sym (ap foundAs (first-done (byRule (a .rules .now) (a .moves .now) (a .shows .now) (below (a .n .size .symbols) (a .n .size .states) (a .heads .now) (a .triples .now) (a .k)) (a .f) (a .n .moves) (a .n .size .states)) (a .n .rules) (c .before .before .found .r) (c .before .before .found .inv .0) (c .if1 .taken) (c .before .before .found .inv .1)))
 
 -- src/why.rt:158:1
 returns-2 : tie.Need-returns-2 Inv-states μ-states Inv-moves μ-moves Inv-found μ-found
 returns-2 c =
-    let a = c .before .before .before .before .before .before .before .before .before .before .before .before .before .args in
-    search-here (a .rulerows .now) (a .moverows .now) (a .shows .now) (below (a .size .symbols) (a .size .states) (a .heads .now) (a .triples .now) (a .k)) (a .f) (a .rules) (a .moves) (a .size .states) (c .before .before .before .before .before .before .before .before .before .found .r) (c .before .before .before .before .before .before .before .moves .v) (c .before .before .before .before .before .states .x) (omega arith) (c .before .before .before .before .before .before .before .before .before .found .inv .1) (omega arith) (c .before .before .before .before .before .before .before .moves .inv .1) (omega arith) (c .before .before .before .before .before .states .inv .1) (c .before .before .before .tried .ensures) (c .before .w .given .1)
+    let a = c .before .before .before .before .before .before .before .before .before .before .before .before .before .before .before .before .args in
+    search-here (a .rules .now) (a .moves .now) (a .shows .now) (below (a .n .size .symbols) (a .n .size .states) (a .heads .now) (a .triples .now) (a .k)) (a .f) (a .n .rules) (a .n .moves) (a .n .size .states) (c .before .before .before .before .before .before .before .before .before .before .before .found .r) (c .before .before .before .before .before .before .before .before .moves .v) (c .before .before .before .before .before .states .x) (omega arith) (c .before .before .before .before .before .before .before .before .before .before .before .found .inv .1) (omega arith) (c .before .before .before .before .before .before .before .before .moves .inv .1) (omega arith) (c .before .before .before .before .before .states .inv .1) (c .before .before .before .tried .ensures) (c .before .w .given .1)
 
 pub explain-spec : {M : Type 1} → statement M
 explain-spec =

@@ -57,25 +57,25 @@ tried-triple-requires c κs = search needs
 returns : tie.Need-returns
 returns c =
     let a = c .before .before .before .before .before .before .args in
-    tried-stuck (a .rulerows .now) (a .moverows .now) (a .shows .now) (below (a .size .symbols) (a .size .states) (a .heads .now) (a .triples .now) (a .k)) (a .f) (a .r) (a .v) (a .x) (c .before .before .before .source .ensures) (c .before .before .next-state .ensures) (c .enum-told .given .1)
+    tried-stuck (a .rules .now) (a .moves .now) (a .shows .now) (below (a .size .symbols) (a .size .states) (a .heads .now) (a .triples .now) (a .k)) (a .f) (a .r) (a .v) (a .x) (c .before .before .before .source .ensures) (c .before .before .next-state .ensures) (c .enum-told .given .1)
 
 -- src/why.rt:140:1
 returns-2 : tie.Need-returns-2
 returns-2 c =
     let a = c .before .before .before .before .before .before .before .before .before .before .args in
-    tried-to (a .rulerows .now) (a .moverows .now) (a .shows .now) (below (a .size .symbols) (a .size .states) (a .heads .now) (a .triples .now) (a .k)) (a .f) (a .r) (a .v) (a .x) (c .before .before .before .before .before .before .before .source .ensures) (c .before .before .before .before .before .before .next-state .ensures) (c .before .before .before .before .next .given .1) (c .before .before .rule-at .ensures) (c .enum-told2 .given .1) refl
+    tried-to (a .rules .now) (a .moves .now) (a .shows .now) (below (a .size .symbols) (a .size .states) (a .heads .now) (a .triples .now) (a .k)) (a .f) (a .r) (a .v) (a .x) (c .before .before .before .before .before .before .before .source .ensures) (c .before .before .before .before .before .before .next-state .ensures) (c .before .before .before .before .next .given .1) (c .before .before .rule-at .ensures) (c .enum-told2 .given .1) refl
 
 -- src/why.rt:140:1
 returns-3 : tie.Need-returns-3
 returns-3 c =
     let a = c .before .before .before .before .before .before .before .before .before .before .before .before .args in
-    tried-to (a .rulerows .now) (a .moverows .now) (a .shows .now) (below (a .size .symbols) (a .size .states) (a .heads .now) (a .triples .now) (a .k)) (a .f) (a .r) (a .v) (a .x) (c .before .before .before .before .before .before .before .before .before .source .ensures) (c .before .before .before .before .before .before .before .before .next-state .ensures) (c .before .before .before .before .before .before .next .given .1) (c .before .before .before .before .rule-at .ensures) (c .before .before .f .given .1) (c .tried-head .ensures)
+    tried-to (a .rules .now) (a .moves .now) (a .shows .now) (below (a .size .symbols) (a .size .states) (a .heads .now) (a .triples .now) (a .k)) (a .f) (a .r) (a .v) (a .x) (c .before .before .before .before .before .before .before .before .before .source .ensures) (c .before .before .before .before .before .before .before .before .next-state .ensures) (c .before .before .before .before .before .before .next .given .1) (c .before .before .before .before .rule-at .ensures) (c .before .before .f .given .1) (c .tried-head .ensures)
 
 -- src/why.rt:140:1
 returns-4 : tie.Need-returns-4
 returns-4 c =
     let a = c .before .before .before .before .before .before .before .before .before .before .before .before .args in
-    tried-to (a .rulerows .now) (a .moverows .now) (a .shows .now) (below (a .size .symbols) (a .size .states) (a .heads .now) (a .triples .now) (a .k)) (a .f) (a .r) (a .v) (a .x) (c .before .before .before .before .before .before .before .before .before .source .ensures) (c .before .before .before .before .before .before .before .before .next-state .ensures) (c .before .before .before .before .before .before .next .given .1) (c .before .before .before .before .rule-at .ensures) (c .before .before .f2 .given .1) (c .tried-triple .ensures)
+    tried-to (a .rules .now) (a .moves .now) (a .shows .now) (below (a .size .symbols) (a .size .states) (a .heads .now) (a .triples .now) (a .k)) (a .f) (a .r) (a .v) (a .x) (c .before .before .before .before .before .before .before .before .before .source .ensures) (c .before .before .before .before .before .before .before .before .next-state .ensures) (c .before .before .before .before .before .before .next .given .1) (c .before .before .before .before .rule-at .ensures) (c .before .before .f2 .given .1) (c .tried-triple .ensures)
 
 pub tried-spec : {M : Type 1} → statement M
 tried-spec =
