@@ -5,7 +5,7 @@ use mathlib.Core.Logic.{_↔_}
 use mathlib.Core.Option.{Option, none, some}
 use mathlib.Core.Path.{_≡_, refl, sym, ap, _∙_, subst, subst⁻¹}
 use Prim.Native.Nat.{ℕ, _+_, _*_, _<_, _≤_}
-use native.Mathlib.Nat.{mul-comm}
+use native.Mathlib.Nat.{mul-comm, mul-assoc}
 use native.Mathlib.Omega.{arith}
 use lib.Dec.{T, leb, leb→le, le→leb}
 use lib.ListN.{length, drop, length-append, length-drop}
@@ -83,3 +83,104 @@ module _ (m : Model) (hs ts : List ℕ) (ready : T (decides m hs ts)) where
     triples-left : ts′ ≡ triplesOf (m .symbols) (m .states) (left (productOf m) b) ++ drop (tripleCount m) ts
     unfolding triplesLeft
     triples-left = d .triples ∙ rw (T-true (decides m hs ts) ready)
+
+
+  -- every verdict's rounds are few
+  few-rounds : (v : Verdict) → IsVerdict (productOf m) v → rounds v ≤ bound (productOf m)
+  few-rounds v i = let (u, j, k) = D .verdict in let e : u ≡ v = D .one-verdict u v j i in subst (λ v. rounds v ≤ bound (productOf m)) e k
+
+  small : bound (productOf m) ≤ 2304
+  small = bound-small (productOf m) (valid-sizes m is-valid .symbols) (omega (arith, length-upTo (m .states), valid-sizes m is-valid .states))
+
+  -- a verdict that there is, is answered
+  answers : (b : ℕ) (r r′ : Decision) (hs′ ts′ : List ℕ) → Decided m b hs ts r hs′ ts′ → (v : Verdict) → IsVerdict (productOf m) v → rounds v ≤ b → meaning r′ ≡ verdict v → r ≡ r′
+  answers b r r′ hs′ ts′ d v i l k = to-answer b r hs′ ts′ d r′ v (answer-of (productOf m) b v i l) k
+
+  -- the table that a safe verdict leaves
+  module _ (b n : ℕ) (hs′ ts′ : List ℕ) (d : Decided m b hs ts (Safe n) hs′ ts′) where
+    safe-answer : answer (productOf m) b ≡ some (safe n)
+    safe-answer = of-answer b (Safe n) hs′ ts′ d (safe n) refl
+
+    safe-is : IsVerdict (productOf m) (safe n)
+    safe-is = D .answer-verdict b (safe n) safe-answer .0
+
+    table-is : view (m .symbols) (m .states) hs′ ts′ ≡ ranks (productOf m) n
+    table-is =
+        rw (heads-left b (Safe n) hs′ ts′ d, triples-left b (Safe n) hs′ ts′ d, safe-answer)
+        (laid-view m is-valid n (drop (headCount m) hs) (drop (tripleCount m) ts))
+
+    heads-long : headCount m ≤ length hs
+    heads-long = leb→le (headCount m) (length hs) (and-left (leb (headCount m) (length hs)) (leb (tripleCount m) (length ts)) long)
+
+    triples-long : tripleCount m ≤ length ts
+    triples-long = leb→le (tripleCount m) (length ts) (and-right (leb (headCount m) (length hs)) (leb (tripleCount m) (length ts)) long)
+
+    same-heads : length hs′ ≡ length hs
+    same-heads =
+        ap length (heads-left b (Safe n) hs′ ts′ d)
+        ∙ length-append (headsOf (m .symbols) (m .states) (left (productOf m) b)) (drop (headCount m) hs)
+        ∙ omega (arith, length-heads (m .symbols) (m .states) (left (productOf m) b), length-drop (headCount m) hs, heads-long)
+
+    same-triples : length ts′ ≡ length ts
+    same-triples =
+        ap length (triples-left b (Safe n) hs′ ts′ d)
+        ∙ length-append (triplesOf (m .symbols) (m .states) (left (productOf m) b)) (drop (tripleCount m) ts)
+        ∙ omega (arith, length-triples (m .symbols) (m .states) (left (productOf m) b), length-drop (tripleCount m) ts, triples-long, mul-assoc (m .states) (m .symbols) (m .states))
+
+    still-long : T (check.longEnough (check.sizeOf m) hs′ ts′)
+    still-long =
+        both (leb (m .symbols * m .states) (length hs′)) (leb (m .symbols * m .states * m .states) (length ts′))
+        (le→leb (m .symbols * m .states) (length hs′) (omega (arith, same-heads, heads-long, mul-comm (m .symbols) (m .states))))
+        (le→leb (m .symbols * m .states * m .states) (length ts′) (omega (arith, same-triples, triples-long, ap (λ n. n * m .states) (mul-comm (m .symbols) (m .states)))))
+
+    safe-table : recheck m hs′ ts′ ≡ Accepted
+    safe-table = accepted-exactly m hs′ ts′ .1 (
+      is-valid,
+      still-long,
+      subst⁻¹ (λ t. T (accepts (productOf m) (present t))) table-is
+          (D .safe-accepted n (omega (arith, few-rounds (safe n) safe-is, small)) safe-is),
+    )
+
+  violation-exactly : (b : ℕ) → bound (productOf m) ≤ b → (r : Decision) (hs′ ts′ : List ℕ) → Decided m b hs ts r hs′ ts′ → ((n : ℕ) × (r ≡ Violation n)) ↔ Violates (productOf m)
+  violation-exactly b l r hs′ ts′ d = (
+    λ (n, e). D .violation-exactly .0 (n, D .answer-verdict b (violation n) (of-answer b r hs′ ts′ d (violation n) (ap meaning e)) .0),
+    λ x. let (n, i) = D .violation-exactly .1 x in (n, answers b r (Violation n) hs′ ts′ d (violation n) i (omega (arith, few-rounds (violation n) i)) refl),
+  )
+
+  safe-exactly : (b : ℕ) → bound (productOf m) ≤ b → (r : Decision) (hs′ ts′ : List ℕ) → Decided m b hs ts r hs′ ts′ → ((n : ℕ) × (r ≡ Safe n)) ↔ (Violates (productOf m) → ⊥)
+  safe-exactly b l r hs′ ts′ d = (
+    λ (n, e). D .safe-exactly .0 (n, D .answer-verdict b (safe n) (of-answer b r hs′ ts′ d (safe n) (ap meaning e)) .0),
+    λ x. let (n, i) = D .safe-exactly .1 x in (n, answers b r (Safe n) hs′ ts′ d (safe n) i (omega (arith, few-rounds (safe n) i)) refl),
+  )
+
+  same-more : (b c : ℕ) → b ≤ c → (r r′ : Decision) (hs′ hs″ ts′ ts″ : List ℕ) → Decided m b hs ts r hs′ ts′ → Decided m c hs ts r′ hs″ ts″
+      → (v : Verdict) → meaning r ≡ verdict v → (r′ ≡ r) × (hs″ ≡ hs′) × (ts″ ≡ ts′)
+  same-more b c l r r′ hs′ hs″ ts′ ts″ d d′ v e =
+      let (a, k) = D .answer-more b c v (of-answer b r hs′ ts′ d v e) l in (
+        to-answer c r′ hs″ ts″ d′ r v a e,
+        heads-left c r′ hs″ ts″ d′ ∙ ap (λ t. headsOf (m .symbols) (m .states) t ++ drop (headCount m) hs) k ∙ sym (heads-left b r hs′ ts′ d),
+        triples-left c r′ hs″ ts″ d′ ∙ ap (λ t. triplesOf (m .symbols) (m .states) t ++ drop (tripleCount m) ts) k ∙ sym (triples-left b r hs′ ts′ d),
+      )
+
+  none-below : (b c : ℕ) → (r r′ : Decision) (hs′ hs″ ts′ ts″ : List ℕ) → Decided m b hs ts r hs′ ts′ → Decided m c hs ts r′ hs″ ts″
+      → (v : Verdict) → meaning r ≡ verdict v → c < rounds v → r′ ≡ Spent c
+  none-below b c r r′ hs′ hs″ ts′ ts″ d d′ v e l =
+      let i = D .answer-verdict b v (of-answer b r hs′ ts′ d v e) .0 in
+      meaning-one r′ (Spent c) (answered c r′ hs″ ts″ d′ ∙ ap (within c) (D .answer-below c v i l))
+
+  always-one : (b : ℕ) → bound (productOf m) ≤ b → (r : Decision) (hs′ ts′ : List ℕ) → Decided m b hs ts r hs′ ts′
+      → (v : Verdict) × (meaning r ≡ verdict v) × (rounds v ≤ bound (productOf m))
+  always-one b l r hs′ ts′ d =
+      let (v, e) = D .answer-bound b l in
+      (v, answered b r hs′ ts′ d ∙ ap (within b) e, few-rounds v (D .answer-verdict b v e .0))
+
+  pub deciding : Deciding m hs ts
+  deciding = record {
+    violation-exactly = violation-exactly;
+    safe-exactly = safe-exactly;
+    safe-accepted = safe-table;
+    same-more = same-more;
+    none-below = none-below;
+    always-one = always-one;
+    no-shallower = λ b r hs′ ts′ d v e. D .rounds-least v (D .answer-verdict b v (of-answer b r hs′ ts′ d v e) .0);
+  }
