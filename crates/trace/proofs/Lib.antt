@@ -9,3 +9,4 @@ pub mod Taken
 pub mod Ranked
 pub mod Laid
 pub mod Write
+pub mod Outcome

@@ -4,3 +4,4 @@ pub mod Answers
 pub mod Unfold
 pub mod Culprit
 pub mod Written
+pub mod Outcome

@@ -1,5 +1,7 @@
 // The trace: the explanation of a fact, found in the two arrays of ranks, and unfolded to the steps of a run.
+ghost use Rattle.trace.specs.Outcome.{Outcome};
 ghost use Rattle.trace.specs.Written.{Ranked, Written};
+use decide::Decision;
 use model::Model;
 use table::Size;
 
@@ -83,4 +85,18 @@ fn write_trace<'a>(
         return Traced::Cut(n, room.len());
     }
     Traced::Found(n, at)
+}
+
+// Decides a model within a budget of rounds, and then writes the trace of a violation into the room, as far as it fits. A room of 0 cells is a room.
+pub fn trace(m: Model, budget: u32, heads: &mut [u16], triples: &mut [u16], room: &mut [u16]) -> Traced
+    ensures { λ r. ⌜ Outcome m budget (now (heads .entry)) (now (triples .entry)) (now (room .entry)) r (now (heads .exit)) (now (triples .exit)) (now (room .exit)) ⌝ }
+{
+    let d = decide::decide(m, budget, heads, triples);
+    match d {
+        Decision::Violation(n) => write_trace(room, heads, triples, m, n),
+        Decision::Safe(n) => Traced::Safe(n),
+        Decision::Invalid => Traced::Invalid,
+        Decision::Short => Traced::Short,
+        Decision::Spent(b) => Traced::Spent(b),
+    }
 }

@@ -1,0 +1,142 @@
+-- From the decision to the trace: the arrays after a violation are its table; and any two outcomes that the contract allows coincide. Assumes nothing.
+use mathlib.Core.Bool.{Bool, true, false, cond, _&&_}
+use mathlib.Core.List.{List, [], _∷_, _++_}
+use mathlib.Core.Option.{Option, none, some}
+use mathlib.Core.Path.{_≡_, refl, sym, ap, ap₂, _∙_, subst, subst⁻¹}
+use Prim.Native.Nat.{ℕ, _<_, _≤_}
+use native.Mathlib.Omega.{arith}
+use lib.Dec.{T, leb, eqb}
+use lib.ListN.{length, drop}
+use lib.Seq.{sets}
+use Rattle.product.specs.Product.{Product}
+use Rattle.product.specs.Verdict as product
+use Rattle.product.specs.Verdict.{Verdict, violation, safe, ran}
+use Rattle.product.specs.Table.{absent, ranks}
+use Rattle.product.proofs.Lists.{length-upTo}
+use Rattle.product.proofs.Budget.{answer-is}
+use Rattle.product.proofs.Verdict.{rounds-bound}
+use Rattle.product.proofs.Demands.{bound-small}
+use Rattle.model.specs.declared.Model.{Model}
+use Rattle.model.specs.Model.{productOf}
+use Rattle.model.specs.Valid.{valid}
+use Rattle.model.proofs.Valid.{product-in, valid-sizes}
+use Rattle.table.specs.Cells.{view, headsOf, triplesOf}
+use Rattle.decide.specs.declared.Decision.{Decision}
+use Rattle.decide.specs.declared.Decision.the-variants.{Violation}
+use Rattle.decide.specs.Decided as decide
+use Rattle.decide.specs.Decided.{verdict, within, longEnough, headCount, tripleCount, decision, decides, headsLeft, triplesLeft, Decided}
+use Rattle.trace.specs.declared.Traced.{Traced}
+use Rattle.trace.specs.declared.Traced.the-variants.{Found, Invalid, Short, Spent, Safe, Cut}
+use Rattle.trace.specs.Written.{Ranked, violationSteps, fitted, Written}
+use Rattle.trace.specs.Outcome.{Answer, traced, refused, meaning, fits, tracedBy, stepsBy, Outcome}
+use Rattle.trace.proofs.Laid.{laid-view}
+
+-- a verdict was answered: the model is valid, the arrays are long enough, and the rounds gave it
+module _ (m : Model) (budget h t : ℕ) (v : Verdict) where
+  pub record Answered : Type 0 where
+    pub valid-model : T (valid m)
+    pub long : longEnough m h t ≡ true
+    pub verdict-is : product.answer (productOf m) budget ≡ some v
+
+  answered : verdict v ≡ decision m budget h t → Answered
+  unfolding decision
+  answered e = go (valid m) refl (longEnough m h t) refl (product.answer (productOf m) budget) refl e
+    where
+      go : (a : Bool) → valid m ≡ a → (b : Bool) → longEnough m h t ≡ b → (o : Option Verdict) → product.answer (productOf m) budget ≡ o
+          → verdict v ≡ cond a (cond b (within budget o) (decide.refused 7 (0 ∷ []))) (decide.refused 6 (0 ∷ [])) → Answered
+      go true x true y (some w) z e = record { valid-model = rw x tt; long = y; verdict-is = z ∙ same e }
+        where
+          same : verdict v ≡ verdict w → some w ≡ some v
+          same e = cc
+      go true x true y none z e = let k : _≡_ {A = ℕ} 0 1 = cc in absurd (omega arith)
+      go true x false y o z e = let k : _≡_ {A = ℕ} 0 1 = cc in absurd (omega arith)
+      go false x b y o z e = let k : _≡_ {A = ℕ} 0 1 = cc in absurd (omega arith)
+
+-- the arrays that a violation leaves
+module _ (m : Model) (budget : ℕ) (hs ts hs′ ts′ : List ℕ) {r : Decision} (D : Decided m budget hs ts r hs′ ts′) (n : ℕ) (told : r ≡ Violation n) where
+  is-violation : Answered m budget (length hs) (length ts) (violation n)
+  is-violation = answered m budget (length hs) (length ts) (violation n) (sym (ap decide.meaning told) ∙ D .answer)
+
+  decided-true : decides m hs ts ≡ true
+  decided-true = ap₂ _&&_ (is-true (valid m) (is-violation .valid-model)) (is-violation .long)
+    where
+      is-true : (b : Bool) → T b → b ≡ true
+      is-true true t = refl
+
+  laid-heads : hs′ ≡ headsOf (m .symbols) (m .states) (ranks (productOf m) n) ++ drop (headCount m) hs
+  unfolding headsLeft
+  laid-heads = D .heads ∙ rw decided-true (ap (λ o. headsOf (m .symbols) (m .states) (ranks (productOf m) (ran budget o)) ++ drop (headCount m) hs) (is-violation .verdict-is))
+
+  laid-triples : ts′ ≡ triplesOf (m .symbols) (m .states) (ranks (productOf m) n) ++ drop (tripleCount m) ts
+  unfolding triplesLeft
+  laid-triples = D .triples ∙ rw decided-true (ap (λ o. triplesOf (m .symbols) (m .states) (ranks (productOf m) (ran budget o)) ++ drop (tripleCount m) ts) (is-violation .verdict-is))
+
+  few-rounds : n < absent
+  few-rounds =
+      let z = valid-sizes m (is-violation .valid-model) in
+      let p : Product = productOf m in
+      let (v, _) = answer-is p budget (violation n) (is-violation .verdict-is) in
+      let a : n ≤ product.bound p = rounds-bound p (product-in m (is-violation .valid-model)) (violation n) v in
+      let b : product.bound p ≤ 2304 = bound-small p (z .symbols) (omega (arith, length-upTo (m .states), z .states)) in
+      omega arith
+
+  pub ranked : Ranked m n hs′ ts′
+  ranked = record {
+    valid-model = is-violation .valid-model;
+    small = few-rounds;
+    table =
+      ap₂ (view (m .symbols) (m .states)) laid-heads laid-triples
+      ∙ laid-view m (is-violation .valid-model) n (drop (headCount m) hs) (drop (tripleCount m) ts);
+  }
+
+  -- the trace that was written from them
+  pub outcome-traced : {room room′ : List ℕ} {d : Traced} → Written m n room d room′ → Outcome m budget hs ts room d hs′ ts′ room′
+  outcome-traced {room} {room′} {d} w =
+      let e : verdict (violation n) ≡ decision m budget (length hs) (length ts) = sym (ap decide.meaning told) ∙ D .answer in
+      record {
+        answer = ap meaning (w .answer) ∙ as-fits (leb (length (violationSteps m n)) (length room)) ∙ ap (tracedBy m (length room)) e;
+        heads = D .heads;
+        triples = D .triples;
+        steps = w .cells ∙ ap (λ x. sets room 0 (stepsBy m x)) e;
+      }
+    where
+      as-fits : (b : Bool) → meaning (cond b (Found n (length (violationSteps m n))) (Cut n (length room))) ≡ cond b (traced n (length (violationSteps m n))) (refused 10 (n ∷ length room ∷ []))
+      as-fits true = refl
+      as-fits false = refl
+
+-- the other answers leave the room as it was
+pub outcome-other : (m : Model) (budget : ℕ) (hs ts hs′ ts′ room : List ℕ) {r : Decision} → Decided m budget hs ts r hs′ ts′
+    → (r′ : Decision) → r ≡ r′ → (d : Traced) → meaning d ≡ tracedBy m (length room) (decide.meaning r′) → stepsBy m (decide.meaning r′) ≡ []
+    → Outcome m budget hs ts room d hs′ ts′ room
+outcome-other m budget hs ts hs′ ts′ room D r′ told d a b =
+    let e : decide.meaning r′ ≡ decision m budget (length hs) (length ts) = sym (ap decide.meaning told) ∙ D .answer in
+    record {
+      answer = a ∙ ap (tracedBy m (length room)) e;
+      heads = D .heads;
+      triples = D .triples;
+      steps = ap (sets room 0) (sym b ∙ ap (stepsBy m) e);
+    }
+
+-- the case that has a meaning
+abbrev meant : Answer → Traced
+meant (traced n k) = Found n k
+meant (refused k []) = Invalid
+meant (refused k (a ∷ [])) = cond (eqb k 6) Invalid (cond (eqb k 7) Short (cond (eqb k 8) (Spent a) (Safe a)))
+meant (refused k (a ∷ b ∷ rest)) = Cut a b
+
+meant-meaning : (r : Traced) → meant (meaning r) ≡ r
+meant-meaning (Found n k) = refl
+meant-meaning Invalid = refl
+meant-meaning Short = refl
+meant-meaning (Spent b) = refl
+meant-meaning (Safe n) = refl
+meant-meaning (Cut n k) = refl
+
+pub outcome-one : (m : Model) (budget : ℕ) (hs ts room : List ℕ) (r r′ : Traced) (hs′ hs″ ts′ ts″ room′ room″ : List ℕ)
+    → Outcome m budget hs ts room r hs′ ts′ room′ → Outcome m budget hs ts room r′ hs″ ts″ room″ → (r ≡ r′) × (hs′ ≡ hs″) × (ts′ ≡ ts″) × (room′ ≡ room″)
+outcome-one m budget hs ts room r r′ hs′ hs″ ts′ ts″ room′ room″ a b = (
+  sym (meant-meaning r) ∙ ap meant (a .answer ∙ sym (b .answer)) ∙ meant-meaning r′,
+  a .heads ∙ sym (b .heads),
+  a .triples ∙ sym (b .triples),
+  a .steps ∙ sym (b .steps),
+)
