@@ -124,8 +124,8 @@ module _ {m : Model} {hs ts hs₁ ts₁ : List ℕ} (r : Ready m hs ts) (e : arr
           next {c} l y =
               rw add-one (record {
                 table = became-then (sizeOf m) (g .table)
-                (subst⁻¹ (Became (sizeOf m) (arrays hs′ ts′) (ranks (productOf m) (suc n))) (rw add-one at y)
-                (became-round m (r .valid-model) n (omega (arith, room)) (arrays hs′ ts′) long (whole .is)));
+                    (subst⁻¹ (Became (sizeOf m) (arrays hs′ ts′) (ranks (productOf m) (suc n))) (rw add-one at y)
+                    (became-round m (r .valid-model) n (omega (arith, room)) (arrays hs′ ts′) long (whole .is)));
                 goes = goes-on;
                 in-budget = l;
               })

@@ -98,16 +98,17 @@ loop-less c = search needs
 
 -- src/lib.rt:29:5
 loop-again : tie.Need-loop-again Inv-loop μ-loop
-loop-again c = 
+loop-again c =
     let p = c .before .before .before .before .before .before .before .before .before .before .before .before .before .before .before .before .before .before .before .before .before .before .before .before .before .before .before .before .pre in
     let s = c .before .before .before .before .before .before .before .before .before .before .before .before .before .before .before .before .before .before .before .before .before .before .before .start .ensures in
     let g = c .before .before .before .before .before .before .before .before .before .before .before .before .before .before .before .before .before .before .loop .inv in
     let l = c .before .before .before .before .before .before .before .before .before .before .before .before .before .clean .ensures in
-    let q = c .before .before .before .before .before .before .before .before .before .quiet .ensures in
-    (omega (arith, room p s (g .3) l (c .before .before .before .before .before .before .before .before .before .before .before .before .if1 .left) q (c .before .before .before .before .before .before .before .before .if2 .left)),
-    c .before .before .before .before .round .kept .0 ∙ g .1,
-    c .before .before .before .before .round .kept .1 .0 ∙ g .2,
-    next p s (g .3) l (c .before .before .before .before .before .before .before .before .before .before .before .before .if1 .left) q (c .before .before .before .before .before .before .before .before .if2 .left) (c .before .before .before .before .before .before .before .if3 .left) (c .before .before .before .before .round .ensures))
+    let q = c .before .before .before .before .before .before .before .before .before .quiet .ensures in (
+      omega (arith, room p s (g .3) l (c .before .before .before .before .before .before .before .before .before .before .before .before .if1 .left) q (c .before .before .before .before .before .before .before .before .if2 .left)),
+      c .before .before .before .before .round .kept .0 ∙ g .1,
+      c .before .before .before .before .round .kept .1 .0 ∙ g .2,
+      next p s (g .3) l (c .before .before .before .before .before .before .before .before .before .before .before .before .if1 .left) q (c .before .before .before .before .before .before .before .before .if2 .left) (c .before .before .before .before .before .before .before .if3 .left) (c .before .before .before .before .round .ensures),
+    )
 
 pub run-spec : {M : Type 1} → statement M
 run-spec =

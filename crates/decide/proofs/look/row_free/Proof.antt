@@ -29,8 +29,7 @@ head-at-requires c κs = search needs
 
 returns : tie.Need-returns Inv-loop μ-loop
 returns c =
-    let a = c .before .before .before .before .before .before .args in
-    stop (λ g. eqb (headIn (a .size .symbols) (a .size .states) (a .heads .now) (a .q) g) absent) (c .before .before .before .loop .g) (is-not absent (c .before .head-at .ensures) (c .if1 .taken)) (a .size .symbols) (search needs) refl
+    stop (λ g. eqb (headIn (c .before .before .before .before .before .before .args .size .symbols) (c .before .before .before .before .before .before .args .size .states) (c .before .before .before .before .before .before .args .heads .now) (c .before .before .before .before .before .before .args .q) g) absent) (c .before .before .before .loop .g) (is-not absent (c .before .head-at .ensures) (c .if1 .taken)) (c .before .before .before .before .before .before .args .size .symbols) (search needs) refl
 
 add-g : tie.Need-add-g Inv-loop μ-loop
 add-g c = search needs
@@ -40,8 +39,7 @@ loop-less c = search needs
 
 loop-again : tie.Need-loop-again Inv-loop μ-loop
 loop-again c =
-    let a = c .before .before .before .before .before .before .args in
-    (search needs, more (λ g. eqb (headIn (a .size .symbols) (a .size .states) (a .heads .now) (a .q) g) absent) (c .before .before .before .loop .g) (is absent (c .before .head-at .ensures) (c .if1 .left)) (c .before .before .before .loop .inv .1) refl)
+    (search needs, more (λ g. eqb (headIn (c .before .before .before .before .before .before .args .size .symbols) (c .before .before .before .before .before .before .args .size .states) (c .before .before .before .before .before .before .args .heads .now) (c .before .before .before .before .before .before .args .q) g) absent) (c .before .before .before .loop .g) (is absent (c .before .head-at .ensures) (c .if1 .left)) (c .before .before .before .loop .inv .1) refl)
 
 returns-2 : tie.Need-returns-2 Inv-loop μ-loop
 returns-2 c =

@@ -26,8 +26,7 @@ same-length-2 c = search needs
 
 returns-2 : tie.Need-returns-2
 returns-2 c =
-    let a = c .before .before .before .before .before .before .before .before .args in
-    λ ts. ap (λ x. arrays x ts) (c .before .before .put-head .ensures) ∙ gets (a .size) (head (a .q) (a .g)) (a .k) (arrays (a .heads .now) ts) (c .before .before .before .before .before .head-at .ensures) (c .before .before .before .before .if1 .left)
+    λ ts. ap (λ x. arrays x ts) (c .before .before .put-head .ensures) ∙ gets (c .before .before .before .before .before .before .before .before .args .size) (head (c .before .before .before .before .before .before .before .before .args .q) (c .before .before .before .before .before .before .before .before .args .g)) (c .before .before .before .before .before .before .before .before .args .k) (arrays (c .before .before .before .before .before .before .before .before .args .heads .now) ts) (c .before .before .before .before .before .head-at .ensures) (c .before .before .before .before .if1 .left)
 
 pub gain-head-spec : {M : Type 1} → statement M
 gain-head-spec =

@@ -26,8 +26,7 @@ same-length-2 c = search needs
 
 returns-2 : tie.Need-returns-2
 returns-2 c =
-    let a = c .before .before .before .before .before .before .before .before .args in
-    λ hs. ap (λ x. arrays hs x) (c .before .before .put-triple .ensures) ∙ gets (a .size) (triple (a .q) (a .g) (a .e)) (a .k) (arrays hs (a .triples .now)) (c .before .before .before .before .before .triple-at .ensures) (c .before .before .before .before .if1 .left)
+    λ hs. ap (λ x. arrays hs x) (c .before .before .put-triple .ensures) ∙ gets (c .before .before .before .before .before .before .before .before .args .size) (triple (c .before .before .before .before .before .before .before .before .args .q) (c .before .before .before .before .before .before .before .before .args .g) (c .before .before .before .before .before .before .before .before .args .e)) (c .before .before .before .before .before .before .before .before .args .k) (arrays hs (c .before .before .before .before .before .before .before .before .args .triples .now)) (c .before .before .before .before .before .triple-at .ensures) (c .before .before .before .before .if1 .left)
 
 pub gain-triple-spec : {M : Type 1} → statement M
 gain-triple-spec =

@@ -49,8 +49,7 @@ loop-less c = search needs
 
 loop-again : tie.Need-loop-again Inv-loop μ-loop
 loop-again c =
-    let a = c .before .before .before .before .before .before .before .before .before .before .before .args in
-    (search needs, c .before .before .meet .kept .0 ∙ c .before .before .before .before .before .loop .inv .1, λ s hs. turn _ _ (λ e. meets s (a .q) (a .g) (a .p) (a .g1) (a .g2) (a .e) e ∷ []) _ (c .before .before .before .before .before .loop .f) (c .before .before .before .before .before .loop .inv .2 s hs) (one-taken _ _ _ _ (c .before .before .meet .ensures s hs)))
+    (search needs, c .before .before .meet .kept .0 ∙ c .before .before .before .before .before .loop .inv .1, λ s hs. turn _ _ (λ e. meets s (c .before .before .before .before .before .before .before .before .before .before .before .args .q) (c .before .before .before .before .before .before .before .before .before .before .before .args .g) (c .before .before .before .before .before .before .before .before .before .before .before .args .p) (c .before .before .before .before .before .before .before .before .before .before .before .args .g1) (c .before .before .before .before .before .before .before .before .before .before .before .args .g2) (c .before .before .before .before .before .before .before .before .before .before .before .args .e) e ∷ []) _ (c .before .before .before .before .before .loop .f) (c .before .before .before .before .before .loop .inv .2 s hs) (one-taken _ _ _ _ (c .before .before .meet .ensures s hs)))
 
 same-length-2 : tie.Need-same-length-2 Inv-loop μ-loop
 same-length-2 c = search needs

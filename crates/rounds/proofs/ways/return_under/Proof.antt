@@ -38,8 +38,7 @@ loop-less c = search needs
 
 loop-again : tie.Need-loop-again Inv-loop μ-loop
 loop-again c =
-    let a = c .before .before .before .before .before .before .before .before .before .args in
-    (search needs, c .before .before .come-back .kept .0 ∙ c .before .before .before .before .before .loop .inv .1, λ s. turn _ _ (λ e. facts.returns s (a .q) (a .g) (a .p) (a .g1) (a .g2) e ∷ []) _ (c .before .before .before .before .before .loop .e) (c .before .before .before .before .before .loop .inv .2 s) (one-taken _ _ _ _ (c .before .before .come-back .ensures s)))
+    (search needs, c .before .before .come-back .kept .0 ∙ c .before .before .before .before .before .loop .inv .1, λ s. turn _ _ (λ e. facts.returns s (c .before .before .before .before .before .before .before .before .before .args .q) (c .before .before .before .before .before .before .before .before .before .args .g) (c .before .before .before .before .before .before .before .before .before .args .p) (c .before .before .before .before .before .before .before .before .before .args .g1) (c .before .before .before .before .before .before .before .before .before .args .g2) e ∷ []) _ (c .before .before .before .before .before .loop .e) (c .before .before .before .before .before .loop .inv .2 s) (one-taken _ _ _ _ (c .before .before .come-back .ensures s)))
 
 same-length : tie.Need-same-length Inv-loop μ-loop
 same-length c = search needs
