@@ -6,3 +6,4 @@ pub mod Good
 pub mod Steps
 pub mod Accepted
 pub mod Numbers
+pub mod Cases

@@ -3,3 +3,4 @@ pub mod Reading
 pub mod Lines
 pub mod Text
 pub mod Says
+pub mod Cases

@@ -68,16 +68,18 @@ fn put_start(d: Draft, q: u32, g: u32) -> Taken
     ensures { λ r. ⌜ r ≡ taken d (startLine d q g) ⌝ }
 {
     let mut m = d.model;
-    if m.symbols == 0 {
+    let symbols = m.symbols as u32;
+    let states = m.states as u32;
+    if symbols == 0 {
         return refuse(3, d);
     }
     if 0 < d.started {
         return refuse(3, d);
     }
-    if m.states as u32 <= q {
+    if states <= q {
         return refuse(4, d);
     }
-    if m.symbols as u32 <= g {
+    if symbols <= g {
         return refuse(4, d);
     }
     m.startstate = q as u8;
@@ -146,19 +148,20 @@ fn put_rule(d: Draft, kind: u8, g: u32, g1: u32, g2: u32) -> Taken
     ensures { λ r. ⌜ r ≡ taken d (ruleLine d kind g g1 g2) ⌝ }
 {
     let mut m = d.model;
-    if m.symbols == 0 {
+    let symbols = m.symbols as u32;
+    let n = m.rules;
+    if symbols == 0 {
         return refuse(3, d);
     }
-    if m.symbols as u32 <= g {
+    if symbols <= g {
         return refuse(4, d);
     }
-    if m.symbols as u32 <= g1 {
+    if symbols <= g1 {
         return refuse(4, d);
     }
-    if m.symbols as u32 <= g2 {
+    if symbols <= g2 {
         return refuse(4, d);
     }
-    let n = m.rules;
     if RULES <= n {
         return refuse(5, d);
     }
@@ -182,19 +185,21 @@ fn put_move(d: Draft, source: u32, event: u32, target: u32) -> Taken
     ensures { λ r. ⌜ r ≡ taken d (moveLine d source event target) ⌝ }
 {
     let mut m = d.model;
+    let states = m.states as u32;
+    let events = m.events as u32;
+    let n = m.moves;
     if m.symbols == 0 {
         return refuse(3, d);
     }
-    if m.states as u32 <= source {
+    if states <= source {
         return refuse(4, d);
     }
-    if m.events as u32 <= event {
+    if events <= event {
         return refuse(4, d);
     }
-    if m.states as u32 <= target {
+    if states <= target {
         return refuse(4, d);
     }
-    let n = m.moves;
     if MOVES <= n {
         return refuse(5, d);
     }

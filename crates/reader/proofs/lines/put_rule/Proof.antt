@@ -4,14 +4,14 @@ use borrow.Author.Needs.{needs}
 use Rattle.reader.proofs.lines.put_rule.Statement.{statement}
 use Rattle.reader.proofs.lines.put_rule.Tie as tie
 
+cast-symbols : tie.Need-cast-symbols
+cast-symbols c = search needs
+
 refuse-requires : tie.Need-refuse-requires
 refuse-requires c κs = search needs
 
 returns : tie.Need-returns
 returns c = search tests
-
-cast-if2 : tie.Need-cast-if2
-cast-if2 c = search needs
 
 refuse-requires-2 : tie.Need-refuse-requires-2
 refuse-requires-2 c κs = search needs
@@ -19,17 +19,11 @@ refuse-requires-2 c κs = search needs
 returns-2 : tie.Need-returns-2
 returns-2 c = search tests
 
-cast-if3 : tie.Need-cast-if3
-cast-if3 c = search needs
-
 refuse-requires-3 : tie.Need-refuse-requires-3
 refuse-requires-3 c κs = search needs
 
 returns-3 : tie.Need-returns-3
 returns-3 c = search tests
-
-cast-if4 : tie.Need-cast-if4
-cast-if4 c = search needs
 
 refuse-requires-4 : tie.Need-refuse-requires-4
 refuse-requires-4 c κs = search needs
@@ -86,15 +80,13 @@ pub put-rule-spec : {M : Type 1} → statement M
 put-rule-spec =
     tie.close
     (tie.spec
+    cast-symbols
     refuse-requires
     returns
-    cast-if2
     refuse-requires-2
     returns-2
-    cast-if3
     refuse-requires-3
     returns-3
-    cast-if4
     refuse-requires-4
     returns-4
     refuse-requires-5

@@ -4,6 +4,12 @@ use borrow.Author.Needs.{needs}
 use Rattle.reader.proofs.lines.put_start.Statement.{statement}
 use Rattle.reader.proofs.lines.put_start.Tie as tie
 
+cast-symbols : tie.Need-cast-symbols
+cast-symbols c = search needs
+
+cast-states : tie.Need-cast-states
+cast-states c = search needs
+
 refuse-requires : tie.Need-refuse-requires
 refuse-requires c κs = search needs
 
@@ -16,17 +22,11 @@ refuse-requires-2 c κs = search needs
 returns-2 : tie.Need-returns-2
 returns-2 c = search tests
 
-cast-if3 : tie.Need-cast-if3
-cast-if3 c = search needs
-
 refuse-requires-3 : tie.Need-refuse-requires-3
 refuse-requires-3 c κs = search needs
 
 returns-3 : tie.Need-returns-3
 returns-3 c = search tests
-
-cast-if4 : tie.Need-cast-if4
-cast-if4 c = search needs
 
 refuse-requires-4 : tie.Need-refuse-requires-4
 refuse-requires-4 c κs = search needs
@@ -47,14 +47,14 @@ pub put-start-spec : {M : Type 1} → statement M
 put-start-spec =
     tie.close
     (tie.spec
+    cast-symbols
+    cast-states
     refuse-requires
     returns
     refuse-requires-2
     returns-2
-    cast-if3
     refuse-requires-3
     returns-3
-    cast-if4
     refuse-requires-4
     returns-4
     cast-m
