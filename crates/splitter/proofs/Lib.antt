@@ -1,0 +1,2 @@
+-- Laws of the two parts of a text.
+pub mod Place
