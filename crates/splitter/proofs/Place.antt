@@ -1,17 +1,15 @@
 -- How the search for the listing goes on at a place. Assumes nothing.
-use mathlib.Core.Path.{_≡_, refl, ap, sym, _∙_}
+use mathlib.Core.Path.{_≡_, refl}
 use mathlib.Core.Bool.{Bool, true, false, _&&_}
 use mathlib.Core.List.{List, [], _∷_}
 use mathlib.Core.Logic.{_⊎_, inl, inr}
 use Prim.Native.Nat.{ℕ, suc, _+_, _-_, _<_, _≤_, zero-le, suc-le-suc}
-use native.Mathlib.Numerals.{add-one}
 use native.Mathlib.Omega.{arith}
 use lib.Dec.{eqb}
 use lib.ListN.{length, getD, take, drop, drop-of-length-le}
 use Rattle.text.specs.Split.{pick, sameBytes}
 use Rattle.text.proofs.Lists.{next, tail-part}
-use Rattle.text.proofs.Bytes.{same-equal}
-use Rattle.splitter.specs.Part.{safe, startsSafe, placeFrom, place}
+use Rattle.splitter.specs.Part.{startsSafe, placeFrom, place}
 
 -- a text of fewer than four bytes does not start with it
 pub too-short : (s : List ℕ) → length s < 4 → false ≡ startsSafe s

@@ -5,11 +5,9 @@ use Prim.Native.Nat.{ℕ, suc}
 use lib.Dec.{eqb}
 use lib.ListN.{take, drop}
 use Rattle.text.specs.Split.{pick, sameBytes}
+use Rattle.line.specs.Line.{safe}
 
--- s a f e
-abbrev pub safe : List ℕ
-safe = 115 ∷ 97 ∷ 102 ∷ 101 ∷ []
-
+-- the first four bytes are the word
 abbrev pub startsSafe : List ℕ → Bool
 startsSafe s = sameBytes (take 4 s) safe
 

@@ -1,3 +1,4 @@
+-- `splitter::listing_of` meets its contract. Assumes nothing.
 use native.Mathlib.Omega.{arith}
 use mathlib.Core.Path.{ap, _∙_}
 use mathlib.Core.Bool.{true}
@@ -7,29 +8,21 @@ use Rattle.splitter.proofs.Place.{within}
 use borrow.Author.Needs.{needs}
 use Rattle.splitter.proofs.listing_of.Statement.{statement}
 use Rattle.splitter.proofs.listing_of.Tie as tie
-use Rattle.splitter.proofs.listing_of.Reads as reads
-use Rattle.splitter.proofs.listing_of.Lts as lts
-use Rattle.splitter.proofs.listing_at.Reads as listing-at-reads
 
--- src/lib.rt:37:9
 listing-at-requires : tie.Need-listing-at-requires
 listing-at-requires c κs = search needs
 
--- src/lib.rt:38:5
 sub-result : tie.Need-sub-result
 sub-result c = omega (arith, within true (c .before .before .args .text .now), c .listing-at .ensures)
 
--- src/lib.rt:38:5
 part-result-start : tie.Need-part-result-start
 part-result-start c = omega (arith, within true (c .before .before .args .text .now), c .listing-at .ensures)
 
--- src/lib.rt:38:5
 part-result-end : tie.Need-part-result-end
 part-result-end c = search needs
 
--- src/lib.rt:34:1
 returns : tie.Need-returns
-returns c = let t = c .before .before .before .args .text .now in tail-part t (c .before .listing-at .r) ∙ ap (λ k. drop k t) (c .before .listing-at .ensures)
+returns c = let t = c .before .before .before .args .text .now in tail-part t _ ∙ ap (λ k. drop k t) (c .before .listing-at .ensures)
 
 pub listing-of-spec : {M : Type 1} → statement M
 listing-of-spec =

@@ -1,3 +1,4 @@
+-- `splitter::model_part` meets its contract. Assumes nothing.
 use native.Mathlib.Omega.{arith}
 use mathlib.Core.Path.{ap}
 use mathlib.Core.Bool.{true}
@@ -8,19 +9,13 @@ use Rattle.splitter.proofs.Place.{within}
 use borrow.Author.Needs.{needs}
 use Rattle.splitter.proofs.model_part.Statement.{statement}
 use Rattle.splitter.proofs.model_part.Tie as tie
-use Rattle.splitter.proofs.model_part.Reads as reads
-use Rattle.splitter.proofs.model_part.Lts as lts
-use Rattle.splitter.proofs.listing_at.Reads as listing-at-reads
 
--- src/lib.rt:45:9
 listing-at-requires : tie.Need-listing-at-requires
 listing-at-requires c κs = search needs
 
--- src/lib.rt:46:5
 slice-aggregate-result : tie.Need-slice-aggregate-result
 slice-aggregate-result c = sym (length-take-le _ (c .before .before .before .args .text .now) (omega (arith, within true (c .before .before .before .args .text .now), c .before .listing-at .ensures)))
 
--- src/lib.rt:42:1
 returns : tie.Need-returns
 returns c = let t = c .before .before .before .args .text .now in ap (λ k. take k t) (c .before .listing-at .ensures)
 
