@@ -1,0 +1,2 @@
+-- Laws of what is put, and of the listing.
+pub mod Bytes
