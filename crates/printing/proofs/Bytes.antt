@@ -8,16 +8,16 @@ use native.Mathlib.Nat.{div-le-self, mod-le}
 use native.Mathlib.Omega.{arith}
 use lib.Dec.{eqb}
 use lib.ListN.{length, getD, take, set, replicate, length-append}
-use lib.Seq.{sets, set-out, take-suc, take-all, length-sets}
+use lib.Seq.{sets, set-out, take-suc, length-sets}
 use borrow.Author.Tests.{eq-eqb, ne-eqb}
 use Rattle.text.specs.Split.{pick}
 use Rattle.text.specs.Digits.{decimal, written, digitsOf}
 use Rattle.text.specs.declared.Digits.{Digits}
 use Rattle.text.proofs.Back.{decimal-length, digits-part}
-use Rattle.product.specs.Lists.{upTo, over}
+use Rattle.product.specs.Lists.{over}
 use Rattle.product.specs.Table.{absent}
 use Rattle.product.proofs.Lists.{over-append, over-suc}
-use Rattle.printing.specs.Listing.{lineBytes, presentIn, cellBytes, cellsBytes}
+use Rattle.printing.specs.Listing.{lineBytes, presentIn, cellBytes, ifPresent, cellsBytes}
 use Rattle.printing.specs.declared.Kind.{Kind}
 use Rattle.printing.specs.declared.Kind.the-variants.{Head, Triple}
 use Rattle.line.specs.Line.{head, erase}
@@ -113,24 +113,22 @@ unfolding lineBytes
 line-short w s h = omega (arith, length-append (w ++ over s field) (10 ∷ []), length-append w (over s field), fields-short s h)
 
 -- the lines of one cell more
-module _ (kind : Kind) (G Q : ℕ) (cells : List ℕ) (i : ℕ) where
-  abbrev cell : ℕ → List ℕ
-  cell i = cellBytes kind G Q i (getD cells i 0)
-
-  pub cells-same : getD cells i 0 ≡ absent → cellsBytes kind G Q cells i ≡ cellsBytes kind G Q cells (i + 1)
-  unfolding cellsBytes
-  cells-same e = ap (λ l. over l cell) (sym (present-same cells i e))
-
-  pub cells-more : (getD cells i 0 ≡ absent → ⊥) → cellsBytes kind G Q cells i ++ cell i ≡ cellsBytes kind G Q cells (i + 1)
-  unfolding cellsBytes
-  cells-more e =
-      ap (λ l. over (presentIn cells i) cell ++ l) (sym (append-nil (cell i)))
-      ∙ sym (over-append (presentIn cells i) (i ∷ []) cell)
-      ∙ ap (λ l. over l cell) (sym (present-more cells i e))
+pub cells-more : (kind : Kind) (G Q : ℕ) (cells : List ℕ) (i : ℕ)
+    → cellsBytes kind G Q cells i ++ ifPresent kind G Q i (getD cells i 0) ≡ cellsBytes kind G Q cells (i + 1)
+unfolding cellsBytes
+cells-more kind G Q cells i = rw add-one (sym (over-suc i (λ i. ifPresent kind G Q i (getD cells i 0))))
 
 pub cells-none : (kind : Kind) (G Q : ℕ) (cells : List ℕ) → [] ≡ cellsBytes kind G Q cells 0
-unfolding cellsBytes presentIn
+unfolding cellsBytes
 cells-none kind G Q cells = refl
+
+-- a cell that is present, by its kind, and one that is not
+pub fact-put : {o p : List ℕ} {a b : ℕ} {kind k : Kind} (G Q i rank : ℕ) → kind ≡ k → (rank ≡ absent → ⊥)
+    → Put o p a b (cellBytes k G Q i rank) → Put o p a b (ifPresent kind G Q i rank)
+fact-put G Q i rank e h x = rw (e, ne-eqb rank absent h) x
+
+pub absent-put : (o : List ℕ) (at : ℕ) (kind : Kind) (G Q i rank : ℕ) → rank ≡ absent → Put o o at at (ifPresent kind G Q i rank)
+absent-put o at kind G Q i rank h = rw (eq-eqb rank absent h) (none-put o at)
 
 -- a line of a cell is at most 30 bytes long
 pub cell-short : (kind : Kind) (G Q i rank : ℕ) → i < 2048 → rank < 65536 → length (cellBytes kind G Q i rank) ≤ 30
@@ -149,3 +147,17 @@ cell-short Triple G Q i rank h k = omega (arith, line-short erase (i / Q / G ∷
     at (suc (suc zero)) = omega (arith, mod-le i Q)
     at (suc (suc (suc zero))) = k
     at (suc (suc (suc (suc j)))) = omega arith
+
+pub fact-short : (kind : Kind) (G Q i rank : ℕ) → i < 2048 → rank < 65536 → length (ifPresent kind G Q i rank) ≤ 30
+fact-short kind G Q i rank h k = go (eqb rank absent)
+  where
+    go : (t : Bool) → length (pick t [] (cellBytes kind G Q i rank)) ≤ 30
+    go true = omega arith
+    go false = cell-short kind G Q i rank h k
+
+pub cells-short : (kind : Kind) (G Q : ℕ) (cells : List ℕ) → ((i : ℕ) → getD cells i 0 < 65536) → (n : ℕ) → n ≤ 2048 → length (cellsBytes kind G Q cells n) ≤ 30 * n
+unfolding cellsBytes
+cells-short kind G Q cells h zero k = omega arith
+cells-short kind G Q cells h (suc n) k =
+    rw (over-suc n (λ i. ifPresent kind G Q i (getD cells i 0)))
+    (omega (arith, length-append (cellsBytes kind G Q cells n) (ifPresent kind G Q n (getD cells n 0)), fact-short kind G Q n (getD cells n 0) (omega arith) (h n), cells-short kind G Q cells h n (omega arith)))

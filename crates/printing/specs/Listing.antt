@@ -24,7 +24,7 @@ abbrev pub factAt : Kind → (G Q i : ℕ) → List ℕ
 factAt Head G Q i = i / G ∷ i % G ∷ []
 factAt Triple G Q i = i / Q / G ∷ i / Q % G ∷ i % Q ∷ []
 
--- the cells, of the first n, that are present
+-- those of the first n cells that are present
 unfoldable pub presentIn : (cells : List ℕ) → (n : ℕ) → List ℕ
 presentIn cells n = over (upTo n) (λ i. pick (eqb (getD cells i 0) absent) [] (i ∷ []))
 
@@ -32,13 +32,18 @@ presentIn cells n = over (upTo n) (λ i. pick (eqb (getD cells i 0) absent) [] (
 abbrev pub cellBytes : Kind → (G Q : ℕ) → (i rank : ℕ) → List ℕ
 cellBytes kind G Q i rank = lineBytes (word kind) (factAt kind G Q i ++ rank ∷ [])
 
--- the lines of those, of the first n cells, that are present
-unfoldable pub cellsBytes : Kind → (G Q : ℕ) → (cells : List ℕ) → ℕ → List ℕ
-cellsBytes kind G Q cells n = over (presentIn cells n) (λ i. cellBytes kind G Q i (getD cells i 0))
+-- nothing for a cell that is not present
+abbrev pub ifPresent : Kind → (G Q : ℕ) → (i rank : ℕ) → List ℕ
+ifPresent kind G Q i rank = pick (eqb rank absent) [] (cellBytes kind G Q i rank)
 
-abbrev pub header : (G Q rounds : ℕ) → (heads triples : List ℕ) → List ℕ
-header G Q rounds hs ts = rounds ∷ length (presentIn hs (Q * G)) ∷ length (presentIn ts (Q * G * Q)) ∷ []
+-- the lines of the first n cells
+unfoldable pub cellsBytes : Kind → (G Q : ℕ) → (cells : List ℕ) → ℕ → List ℕ
+cellsBytes kind G Q cells n = over (upTo n) (λ i. ifPresent kind G Q i (getD cells i 0))
+
+-- rounds, count of heads, count of triples
+unfoldable pub headerBytes : (G Q rounds : ℕ) → (heads triples : List ℕ) → List ℕ
+headerBytes G Q rounds hs ts = lineBytes safe (rounds ∷ length (presentIn hs (Q * G)) ∷ length (presentIn ts (Q * G * Q)) ∷ [])
 
 -- the whole listing, for G symbols and Q states
 unfoldable pub listingBytes : (G Q rounds : ℕ) → (heads triples : List ℕ) → List ℕ
-listingBytes G Q rounds hs ts = lineBytes safe (header G Q rounds hs ts) ++ cellsBytes Head G Q hs (Q * G) ++ cellsBytes Triple G Q ts (Q * G * Q)
+listingBytes G Q rounds hs ts = headerBytes G Q rounds hs ts ++ cellsBytes Head G Q hs (Q * G) ++ cellsBytes Triple G Q ts (Q * G * Q)

@@ -60,3 +60,12 @@ pub record Rows (size : Size) (cells : List ℕ) (n at : ℕ) : Type 0 where
   pub there : n ≤ length cells
   pub few : n ≤ 2048
   pub near : at + 30 * n ≤ 70000
+
+-- a table that is within the sizes, and in its arrays
+pub record Whole (size : Size) (heads triples : List ℕ) : Type 0 where
+  pub some-symbol : 1 ≤ size .symbols
+  pub symbols : size .symbols ≤ 32
+  pub some-state : 1 ≤ size .states
+  pub states : size .states ≤ 8
+  pub heads-there : size .states * size .symbols ≤ length heads
+  pub triples-there : size .states * size .symbols * size .states ≤ length triples

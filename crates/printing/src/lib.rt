@@ -5,9 +5,9 @@ ghost use Prim.Native.Nat.{ℕ, _+_, _*_, _<_, _≤_};
 ghost use lib.ListN.{length};
 ghost use Rattle.product.specs.Lists.{over};
 ghost use Rattle.text.specs.Digits.{decimal};
-ghost use Rattle.printing.specs.Listing.{lineBytes, cellBytes, presentIn, cellsBytes, listingBytes};
+ghost use Rattle.printing.specs.Listing.{lineBytes, cellBytes, ifPresent, presentIn, cellsBytes, headerBytes, listingBytes};
 ghost use Rattle.printing.specs.declared.Kind.the-variants.{Head, Triple};
-ghost use Rattle.printing.specs.Writing.{Writes, Put, Cell, Rows};
+ghost use Rattle.printing.specs.Writing.{Writes, Put, Cell, Rows, Whole};
 use model::Model;
 use table::ABSENT;
 use table::Size;
@@ -106,9 +106,7 @@ fn count(cells: &[u16], n: usize) -> u16
 // Puts the line of the head whose cell is i.
 fn put_head(out: &mut [u8], at: usize, size: Size, i: usize, rank: u16) -> usize
     requires { ⌜ Cell size i at ⌝ }
-    ensures {
-        λ r. ⌜ Put (now (out .entry)) (now (out .exit)) at r (cellBytes Head (size .symbols) (size .states) i rank) ⌝
-    }
+    ensures { λ r. ⌜ Put (now (out .entry)) (now (out .exit)) at r (cellBytes Head (size .symbols) (size .states) i rank) ⌝ }
 {
     let g = size.symbols as usize;
     let row = [(i / g) as u16, (i % g) as u16, rank];
@@ -118,9 +116,7 @@ fn put_head(out: &mut [u8], at: usize, size: Size, i: usize, rank: u16) -> usize
 // Puts the line of the triple whose cell is i.
 fn put_triple(out: &mut [u8], at: usize, size: Size, i: usize, rank: u16) -> usize
     requires { ⌜ Cell size i at ⌝ }
-    ensures {
-        λ r. ⌜ Put (now (out .entry)) (now (out .exit)) at r (cellBytes Triple (size .symbols) (size .states) i rank) ⌝
-    }
+    ensures { λ r. ⌜ Put (now (out .entry)) (now (out .exit)) at r (cellBytes Triple (size .symbols) (size .states) i rank) ⌝ }
 {
     let g = size.symbols as usize;
     let q = size.states as usize;
@@ -129,13 +125,14 @@ fn put_triple(out: &mut [u8], at: usize, size: Size, i: usize, rank: u16) -> usi
     put_line(out, at, b"erase", &row)
 }
 
-// Puts the line of either.
+// Puts the line of cell i, if it is present.
 fn put_fact(out: &mut [u8], at: usize, kind: Kind, size: Size, i: usize, rank: u16) -> usize
     requires { ⌜ Cell size i at ⌝ }
-    ensures {
-        λ r. ⌜ Put (now (out .entry)) (now (out .exit)) at r (cellBytes kind (size .symbols) (size .states) i rank) ⌝
-    }
+    ensures { λ r. ⌜ Put (now (out .entry)) (now (out .exit)) at r (ifPresent kind (size .symbols) (size .states) i rank) ⌝ }
 {
+    if rank == ABSENT {
+        return at;
+    }
     match kind {
         Kind::Head => put_head(out, at, size, i, rank),
         Kind::Triple => put_triple(out, at, size, i, rank),
@@ -145,18 +142,65 @@ fn put_fact(out: &mut [u8], at: usize, kind: Kind, size: Size, i: usize, rank: u
 // Puts the lines of those, of the first n cells, that are present.
 fn put_cells(out: &mut [u8], at: usize, kind: Kind, size: Size, cells: &[u16], n: usize) -> usize
     requires { ⌜ Rows size (now cells) n at ⌝ }
-    ensures {
-        λ r. ⌜ Put (now (out .entry)) (now (out .exit)) at r (cellsBytes kind (size .symbols) (size .states) (now (cells .entry)) n) ⌝
-    }
+    ensures { λ r. ⌜ Put (now (out .entry)) (now (out .exit)) at r (cellsBytes kind (size .symbols) (size .states) (now (cells .entry)) n) ⌝ }
 {
     let mut next = at;
     let mut i: usize = 0;
     while i < n {
-        let rank = cells[i];
-        if rank != ABSENT {
-            next = put_fact(out, next, kind, size, i, rank);
-        }
+        next = put_fact(out, next, kind, size, i, cells[i]);
         i += 1;
     }
     next
+}
+
+// Puts the header.
+fn put_header(out: &mut [u8], size: Size, rounds: u16, heads: &[u16], triples: &[u16]) -> usize
+    requires { ⌜ Whole size (now heads) (now triples) ⌝ }
+    ensures { λ r. ⌜ Put (now (out .entry)) (now (out .exit)) 0 r (headerBytes (size .symbols) (size .states) rounds (now (heads .entry)) (now (triples .entry))) ⌝ }
+{
+    let h = (size.states as usize) * (size.symbols as usize);
+    let t = h * (size.states as usize);
+    let row = [rounds, count(heads, h), count(triples, t)];
+    put_line(out, 0, b"safe", &row)
+}
+
+// Puts the whole listing.
+fn put_listing(out: &mut [u8], size: Size, rounds: u16, heads: &[u16], triples: &[u16]) -> usize
+    requires { ⌜ Whole size (now heads) (now triples) ⌝ }
+    ensures { λ r. ⌜ Put (now (out .entry)) (now (out .exit)) 0 r (listingBytes (size .symbols) (size .states) rounds (now (heads .entry)) (now (triples .entry))) ⌝ }
+{
+    let h = (size.states as usize) * (size.symbols as usize);
+    let t = h * (size.states as usize);
+    let first = put_header(out, size, rounds, heads, triples);
+    let next = put_cells(out, first, Kind::Head, size, heads, h);
+    put_cells(out, next, Kind::Triple, size, triples, t)
+}
+
+// Writes the listing of the table into `out`, as much of it as has room.
+pub fn write_listing(
+    m: Model,
+    rounds: u16,
+    heads: &[u16],
+    triples: &[u16],
+    out: &mut [u8],
+) -> Written
+    ensures { λ r. ⌜ Writes m rounds (now (heads .entry)) (now (triples .entry)) (now (out .entry)) (now (out .exit)) r ⌝ }
+{
+    if !model::is_valid(m) {
+        return Written::Invalid;
+    }
+    let size = Size {
+        symbols: m.symbols,
+        states: m.states,
+    };
+    let h = (size.states as usize) * (size.symbols as usize);
+    let t = h * (size.states as usize);
+    if heads.len() < h {
+        return Written::Short;
+    }
+    if triples.len() < t {
+        return Written::Short;
+    }
+    let n = put_listing(out, size, rounds, heads, triples);
+    Written::Bytes(n)
 }

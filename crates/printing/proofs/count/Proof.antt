@@ -1,3 +1,4 @@
+-- `printing::count` meets its contract. Assumes nothing.
 use mathlib.Core.Logic.{⊎-elim}
 use mathlib.Core.Path.{_≡_, sym, ap, _∙_}
 use lib.ListN.{length}
@@ -8,8 +9,6 @@ use borrow.Author.Needs.{needs}
 use native.Mathlib.Omega.{arith}
 use Rattle.printing.proofs.count.Statement.{statement}
 use Rattle.printing.proofs.count.Tie as tie
-use Rattle.printing.proofs.count.Reads as reads
-use Rattle.printing.proofs.count.Lts as lts
 
 abbrev Inv-loop : tie.InvT-loop
 Inv-loop cells n present₀ i₀ present i = (i ≤ n) × (present ≤ i) × (present ≡ length (presentIn cells i))
@@ -17,31 +16,24 @@ Inv-loop cells n present₀ i₀ present i = (i ≤ n) × (present ≤ i) × (pr
 abbrev μ-loop : tie.MeasureT-loop
 μ-loop cells n present₀ i₀ present i = n - i
 
--- src/lib.rt:96:5
 loop-holds : tie.Need-loop-holds Inv-loop μ-loop
 loop-holds c = (search needs, search needs, count-none _)
 
--- src/lib.rt:97:12
 mul-if1 : tie.Need-mul-if1 Inv-loop μ-loop
 mul-if1 c = search needs
 
--- src/lib.rt:97:12
 shared-slice-read-if1 : tie.Need-shared-slice-read-if1 Inv-loop μ-loop
 shared-slice-read-if1 c = search needs
 
--- src/lib.rt:98:13
 add-present : tie.Need-add-present Inv-loop μ-loop
 add-present c = search needs
 
--- src/lib.rt:100:9
 add-i : tie.Need-add-i Inv-loop μ-loop
 add-i c = search needs
 
--- src/lib.rt:96:5
 loop-less : tie.Need-loop-less Inv-loop μ-loop
 loop-less c = search needs
 
--- src/lib.rt:96:5
 loop-again : tie.Need-loop-again Inv-loop μ-loop
 loop-again c =
     let l = c .before .before .before .loop in
@@ -51,7 +43,6 @@ loop-again c =
     (λ w. (search needs, omega arith, w .1 ∙ l .inv .2 ∙ ap length (sym (present-same cells (l .i) (w .0 .left)))))
     (c .if1 .came)
 
--- src/lib.rt:90:1
 returns : tie.Need-returns Inv-loop μ-loop
 returns c = let l = c .before .loop in let e : l .i ≡ c .before .before .args .n = omega arith in rw (← e) (l .inv .2)
 

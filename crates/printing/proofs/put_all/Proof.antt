@@ -1,4 +1,4 @@
-use mathlib.Core.Path.{_≡_}
+-- `printing::put_all` meets its contract. Assumes nothing.
 use lib.Seq.{take-all}
 use lib.ListN.{length, take}
 use Prim.Native.Nat.{_+_, _-_, _≤_}
@@ -8,9 +8,6 @@ use borrow.Author.Needs.{needs}
 use native.Mathlib.Omega.{arith}
 use Rattle.printing.proofs.put_all.Statement.{statement}
 use Rattle.printing.proofs.put_all.Tie as tie
-use Rattle.printing.proofs.put_all.Reads as reads
-use Rattle.printing.proofs.put_all.Lts as lts
-use Rattle.printing.proofs.put.Reads as put-reads
 
 abbrev Inv-loop : tie.InvT-loop
 Inv-loop out₀ at s next₀ i₀ out next i = (i ≤ length s) × (next ≤ at + i) × Put out₀ out at next (take i s)
@@ -18,35 +15,27 @@ Inv-loop out₀ at s next₀ i₀ out next i = (i ≤ length s) × (next ≤ at 
 abbrev μ-loop : tie.MeasureT-loop
 μ-loop out₀ at s next₀ i₀ out next i = length s - i
 
--- src/lib.rt:46:5
 loop-holds : tie.Need-loop-holds Inv-loop μ-loop
 loop-holds c = (search needs, search needs, none-put _ _)
 
--- src/lib.rt:47:31
 shared-slice-read-put : tie.Need-shared-slice-read-put Inv-loop μ-loop
 shared-slice-read-put c = search needs
 
--- src/lib.rt:47:9
 put-requires : tie.Need-put-requires Inv-loop μ-loop
 put-requires c κs = search needs
 
--- src/lib.rt:48:9
 add-i : tie.Need-add-i Inv-loop μ-loop
 add-i c = search needs
 
--- src/lib.rt:46:5
 loop-less : tie.Need-loop-less Inv-loop μ-loop
 loop-less c = search needs
 
--- src/lib.rt:46:5
 loop-again : tie.Need-loop-again Inv-loop μ-loop
 loop-again c = (search needs, omega (arith, c .before .before .put .ensures .place), as-put (take-more (c .before .before .before .before .before .before .before .before .before .args .s .now) (c .before .before .before .before .before .before .loop .i) (omega arith)) (then-put (c .before .before .before .before .before .before .loop .inv .2) (c .before .before .put .ensures)))
 
--- src/lib.rt:40:1
 same-length : tie.Need-same-length Inv-loop μ-loop
 same-length c = put-length (c .before .loop .inv .2)
 
--- src/lib.rt:40:1
 returns : tie.Need-returns Inv-loop μ-loop
 returns c = as-put (take-all (c .before .loop .i) (c .before .before .before .before .args .s .now) (omega arith)) (c .before .loop .inv .2)
 

@@ -1,52 +1,56 @@
+-- `printing::put_cells` meets its contract. Assumes nothing.
+use mathlib.Core.Path.{_≡_}
+use lib.ListN.{getD}
+use Prim.Native.Nat.{_+_, _*_, _-_, _≤_, _<_}
+use Rattle.printing.specs.Listing.{cellsBytes}
+use Rattle.printing.specs.Writing.{Put}
+use Rattle.printing.proofs.Bytes.{none-put, then-put, as-put, cells-none, cells-more, fact-short, put-length}
 use borrow.Author.Needs.{needs}
 use native.Mathlib.Omega.{arith}
 use Rattle.printing.proofs.put_cells.Statement.{statement}
 use Rattle.printing.proofs.put_cells.Tie as tie
-use Rattle.printing.proofs.put_cells.Reads as reads
-use Rattle.printing.proofs.put_cells.Lts as lts
-use Rattle.printing.proofs.put_fact.Reads as put-fact-reads
 
 abbrev Inv-loop : tie.InvT-loop
-Inv-loop out₀ at kind size cells n next₀ i₀ out next i = ?
+Inv-loop out₀ at kind size cells n next₀ i₀ out next i = (i ≤ n) × (next ≤ at + 30 * i) × Put out₀ out at next (cellsBytes kind (size .symbols) (size .states) cells i)
 
 abbrev μ-loop : tie.MeasureT-loop
-μ-loop out₀ at kind size cells n next₀ i₀ out next i = ?
+μ-loop out₀ at kind size cells n next₀ i₀ out next i = n - i
 
--- src/lib.rt:154:5
 loop-holds : tie.Need-loop-holds Inv-loop μ-loop
-loop-holds c = search needs
+loop-holds c = (search needs, search needs, as-put (cells-none _ _ _ _) (none-put _ _))
 
--- src/lib.rt:155:20
-mul-rank : tie.Need-mul-rank Inv-loop μ-loop
-mul-rank c = search needs
+mul-put-fact : tie.Need-mul-put-fact Inv-loop μ-loop
+mul-put-fact c = search needs
 
--- src/lib.rt:155:20
-shared-slice-read-rank : tie.Need-shared-slice-read-rank Inv-loop μ-loop
-shared-slice-read-rank c = search needs
+shared-slice-read-put-fact : tie.Need-shared-slice-read-put-fact Inv-loop μ-loop
+shared-slice-read-put-fact c = search needs
 
--- src/lib.rt:157:13
 put-fact-requires : tie.Need-put-fact-requires Inv-loop μ-loop
 put-fact-requires c κs = search needs
 
--- src/lib.rt:159:9
 add-i : tie.Need-add-i Inv-loop μ-loop
 add-i c = search needs
 
--- src/lib.rt:154:5
 loop-less : tie.Need-loop-less Inv-loop μ-loop
 loop-less c = search needs
 
--- src/lib.rt:154:5
 loop-again : tie.Need-loop-again Inv-loop μ-loop
-loop-again c = search needs
+loop-again c =
+    let l = c .before .before .before .before .before .before .loop in
+    let a = c .before .before .before .before .before .before .before .before .before .args in
+    let p = a .cells .now in
+    let f = c .before .before .put-fact .ensures in
+    let h : getD p (l .i) 0 < 65536 = omega (arith, c .before .before .before .shared-slice-known2 .given (l .i)) in (
+      search needs,
+      omega (arith, f .place, fact-short (a .kind) (a .size .symbols) (a .size .states) (l .i) (getD p (l .i) 0) (omega arith) h),
+      as-put (cells-more (a .kind) (a .size .symbols) (a .size .states) p (l .i)) (then-put (l .inv .2) f),
+    )
 
--- src/lib.rt:146:1
 same-length : tie.Need-same-length Inv-loop μ-loop
-same-length c = search needs
+same-length c = put-length (c .before .loop .inv .2)
 
--- src/lib.rt:146:1
 returns : tie.Need-returns Inv-loop μ-loop
-returns c = search needs
+returns c = let e : c .before .loop .i ≡ c .before .before .before .before .args .n = omega arith in rw e at (c .before .loop .inv .2)
 
 pub put-cells-spec : {M : Type 1} → statement M
 put-cells-spec =
@@ -55,8 +59,8 @@ put-cells-spec =
     Inv-loop
     μ-loop
     loop-holds
-    mul-rank
-    shared-slice-read-rank
+    mul-put-fact
+    shared-slice-read-put-fact
     put-fact-requires
     add-i
     loop-less

@@ -1,50 +1,37 @@
-use Prim.Native.Nat.{_/_, _%_}
+-- `printing::put_head` meets its contract. Assumes nothing.
 use native.Mathlib.Nat.{div-le-self, mod-le}
 use native.Mathlib.Omega.{arith}
 use borrow.Author.Needs.{needs}
 use Rattle.printing.proofs.put_head.Statement.{statement}
 use Rattle.printing.proofs.put_head.Tie as tie
-use Rattle.printing.proofs.put_head.Reads as reads
-use Rattle.printing.proofs.put_head.Lts as lts
-use Rattle.printing.proofs.put_line.Reads as put-line-reads
 
--- src/lib.rt:113:13
 cast-g : tie.Need-cast-g
 cast-g c = search needs
 
--- src/lib.rt:114:17
 div-t9 : tie.Need-div-t9
 div-t9 c = search needs
 
--- src/lib.rt:114:16
 cast-t10 : tie.Need-cast-t10
 cast-t10 c = omega (arith, div-le-self (c .before .before .args .i) (c .before .before .args .size .symbols))
 
--- src/lib.rt:114:33
 rem-t11 : tie.Need-rem-t11
 rem-t11 c = search needs
 
--- src/lib.rt:114:32
 cast-t12 : tie.Need-cast-t12
 cast-t12 c = omega (arith, mod-le (c .before .before .args .i) (c .before .before .args .size .symbols))
 
--- src/lib.rt:115:23
 slice-aggregate-put-line : tie.Need-slice-aggregate-put-line
 slice-aggregate-put-line c = search needs
 
--- src/lib.rt:115:32
 slice-aggregate-put-line-2 : tie.Need-slice-aggregate-put-line-2
 slice-aggregate-put-line-2 c = search needs
 
--- src/lib.rt:115:5
 put-line-requires : tie.Need-put-line-requires
 put-line-requires c κs = search needs
 
--- src/lib.rt:107:1
 same-length : tie.Need-same-length
 same-length c = search needs
 
--- src/lib.rt:107:1
 returns : tie.Need-returns
 returns c = search needs
 

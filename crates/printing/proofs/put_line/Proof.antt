@@ -1,3 +1,4 @@
+-- `printing::put_line` meets its contract. Assumes nothing.
 use Prim.Native.Nat.{_<_}
 use lib.ListN.{getD}
 use mathlib.Core.Path.{_∙_}
@@ -6,31 +7,21 @@ use native.Mathlib.Omega.{arith}
 use borrow.Author.Needs.{needs}
 use Rattle.printing.proofs.put_line.Statement.{statement}
 use Rattle.printing.proofs.put_line.Tie as tie
-use Rattle.printing.proofs.put_line.Reads as reads
-use Rattle.printing.proofs.put_line.Lts as lts
-use Rattle.printing.proofs.put.Reads as put-reads
-use Rattle.printing.proofs.put_all.Reads as put-all-reads
-use Rattle.printing.proofs.put_fields.Reads as put-fields-reads
 
--- src/lib.rt:84:9
 put-all-requires : tie.Need-put-all-requires
 put-all-requires c κs = search needs
 
--- src/lib.rt:85:9
 put-fields-requires : tie.Need-put-fields-requires
 put-fields-requires c κs = search needs
 
--- src/lib.rt:86:5
 put-requires : tie.Need-put-requires
 put-requires c κs =
     let s = c .before .before .before .before .before .before .before .before .before .before .before .before .args .numbers .now in
     omega (arith, c .before .before .before .put-fields .ensures .place, c .before .before .before .before .before .before .before .put-all .ensures .place, fields-short s (λ i. let h : getD s i 0 < 65536 = omega (arith, c .before .before .before .before .before .before .before .before .before .shared-slice-known2 .given i) in h))
 
--- src/lib.rt:80:1
 same-length : tie.Need-same-length
 same-length c = put-length (c .before .before .put .ensures) ∙ put-length (c .before .before .before .before .before .before .put-fields .ensures) ∙ put-length (c .before .before .before .before .before .before .before .before .before .before .put-all .ensures)
 
--- src/lib.rt:80:1
 returns : tie.Need-returns
 returns c = line-put _ (c .before .before .before .before .before .before .before .before .before .before .put-all .ensures) (c .before .before .before .before .before .before .put-fields .ensures) (c .before .before .put .ensures)
 

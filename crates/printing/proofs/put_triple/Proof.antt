@@ -1,66 +1,50 @@
-use Prim.Native.Nat.{_/_, _%_}
+-- `printing::put_triple` meets its contract. Assumes nothing.
+use Prim.Native.Nat.{_/_}
 use native.Mathlib.Nat.{div-le-self, mod-le}
 use native.Mathlib.Omega.{arith}
 use borrow.Author.Needs.{needs}
 use Rattle.printing.proofs.put_triple.Statement.{statement}
 use Rattle.printing.proofs.put_triple.Tie as tie
-use Rattle.printing.proofs.put_triple.Reads as reads
-use Rattle.printing.proofs.put_triple.Lts as lts
-use Rattle.printing.proofs.put_line.Reads as put-line-reads
 
--- src/lib.rt:125:13
 cast-g : tie.Need-cast-g
 cast-g c = search needs
 
--- src/lib.rt:126:13
 cast-q : tie.Need-cast-q
 cast-q c = search needs
 
--- src/lib.rt:127:13
 div-h : tie.Need-div-h
 div-h c = search needs
 
--- src/lib.rt:128:17
 div-t11 : tie.Need-div-t11
 div-t11 c = search needs
 
--- src/lib.rt:128:16
 cast-t12 : tie.Need-cast-t12
 cast-t12 c = omega (arith, div-le-self (c .before .before .before .args .i) (c .before .before .before .args .size .states), div-le-self (c .before .before .before .args .i / c .before .before .before .args .size .states) (c .before .before .before .args .size .symbols))
 
--- src/lib.rt:128:33
 rem-t13 : tie.Need-rem-t13
 rem-t13 c = search needs
 
--- src/lib.rt:128:32
 cast-t14 : tie.Need-cast-t14
 cast-t14 c = omega (arith, div-le-self (c .before .before .before .args .i) (c .before .before .before .args .size .states), mod-le (c .before .before .before .args .i / c .before .before .before .args .size .states) (c .before .before .before .args .size .symbols))
 
--- src/lib.rt:128:49
 rem-t15 : tie.Need-rem-t15
 rem-t15 c = search needs
 
--- src/lib.rt:128:48
 cast-t16 : tie.Need-cast-t16
 cast-t16 c = omega (arith, mod-le (c .before .before .before .args .i) (c .before .before .before .args .size .states))
 
--- src/lib.rt:129:23
 slice-aggregate-put-line : tie.Need-slice-aggregate-put-line
 slice-aggregate-put-line c = search needs
 
--- src/lib.rt:129:33
 slice-aggregate-put-line-2 : tie.Need-slice-aggregate-put-line-2
 slice-aggregate-put-line-2 c = search needs
 
--- src/lib.rt:129:5
 put-line-requires : tie.Need-put-line-requires
 put-line-requires c κs = search needs
 
--- src/lib.rt:119:1
 same-length : tie.Need-same-length
 same-length c = search needs
 
--- src/lib.rt:119:1
 returns : tie.Need-returns
 returns c = search needs
 
