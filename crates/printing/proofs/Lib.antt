@@ -1,0 +1,3 @@
+-- Laws of what is put, and of the listing.
+pub mod Bytes
+pub mod Whole

@@ -1,0 +1,68 @@
+-- `printing::put_triple` meets its contract. Assumes nothing.
+use Prim.Native.Nat.{_/_}
+use native.Mathlib.Nat.{div-le-self, mod-le}
+use native.Mathlib.Omega.{arith}
+use borrow.Author.Needs.{needs}
+use Rattle.printing.proofs.put_triple.Statement.{statement}
+use Rattle.printing.proofs.put_triple.Tie as tie
+
+cast-g : tie.Need-cast-g
+cast-g c = search needs
+
+cast-q : tie.Need-cast-q
+cast-q c = search needs
+
+div-h : tie.Need-div-h
+div-h c = search needs
+
+div-t11 : tie.Need-div-t11
+div-t11 c = search needs
+
+cast-t12 : tie.Need-cast-t12
+cast-t12 c = omega (arith, div-le-self (c .before .before .before .args .i) (c .before .before .before .args .size .states), div-le-self (c .before .before .before .args .i / c .before .before .before .args .size .states) (c .before .before .before .args .size .symbols))
+
+rem-t13 : tie.Need-rem-t13
+rem-t13 c = search needs
+
+cast-t14 : tie.Need-cast-t14
+cast-t14 c = omega (arith, div-le-self (c .before .before .before .args .i) (c .before .before .before .args .size .states), mod-le (c .before .before .before .args .i / c .before .before .before .args .size .states) (c .before .before .before .args .size .symbols))
+
+rem-t15 : tie.Need-rem-t15
+rem-t15 c = search needs
+
+cast-t16 : tie.Need-cast-t16
+cast-t16 c = omega (arith, mod-le (c .before .before .before .args .i) (c .before .before .before .args .size .states))
+
+slice-aggregate-put-line : tie.Need-slice-aggregate-put-line
+slice-aggregate-put-line c = search needs
+
+slice-aggregate-put-line-2 : tie.Need-slice-aggregate-put-line-2
+slice-aggregate-put-line-2 c = search needs
+
+put-line-requires : tie.Need-put-line-requires
+put-line-requires c κs = search needs
+
+same-length : tie.Need-same-length
+same-length c = search needs
+
+returns : tie.Need-returns
+returns c = search needs
+
+pub put-triple-spec : {M : Type 1} → statement M
+put-triple-spec =
+    tie.close
+    (tie.spec
+    cast-g
+    cast-q
+    div-h
+    div-t11
+    cast-t12
+    rem-t13
+    cast-t14
+    rem-t15
+    cast-t16
+    slice-aggregate-put-line
+    slice-aggregate-put-line-2
+    put-line-requires
+    same-length
+    returns)

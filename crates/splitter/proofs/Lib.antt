@@ -1,0 +1,3 @@
+-- Laws of the two parts of a text.
+pub mod Place
+pub mod Parts
