@@ -1,6 +1,5 @@
 -- The promises of the decision and the table check hold. Assumes nothing.
-use mathlib.Core.Bool.{Bool, true, false, cond, _&&_}
-use mathlib.Core.List.{List, [], _∷_, _++_}
+use mathlib.Core.List.{List, _++_}
 use mathlib.Core.Logic.{_↔_}
 use mathlib.Core.Option.{Option, none, some}
 use mathlib.Core.Path.{_≡_, refl, sym, ap, _∙_, subst, subst⁻¹}
@@ -10,7 +9,7 @@ use native.Mathlib.Omega.{arith}
 use lib.Dec.{T, leb, leb→le, le→leb}
 use lib.ListN.{length, drop, length-append, length-drop}
 use Rattle.product.specs.Lists.{upTo, over, each}
-use Rattle.product.specs.Facts.{Fact, head, triple}
+use Rattle.product.specs.Facts.{head, triple}
 use Rattle.product.specs.Verdict.{violation, safe, rounds, Verdict, IsVerdict, answer, bound}
 use Rattle.product.specs.Table.{Table, present, ranks, left}
 use Rattle.product.specs.Check.{accepts}
@@ -25,7 +24,7 @@ use Rattle.model.specs.Valid.{valid}
 use Rattle.model.proofs.Valid.{valid-sizes, product-in}
 use Rattle.decide.specs.declared.Decision.{Decision}
 use Rattle.decide.specs.declared.Decision.the-variants.{Violation, Safe, Spent}
-use Rattle.decide.specs.Decided.{Answer, verdict, refused, meaning, within, headCount, tripleCount, longEnough, decision, decides, headsLeft, triplesLeft, Decided}
+use Rattle.decide.specs.Decided.{verdict, meaning, within, headCount, tripleCount, longEnough, decision, decides, headsLeft, triplesLeft, Decided}
 use Rattle.decide.proofs.Coincide.{meaning-one}
 use Rattle.recheck.specs.declared.Recheck.the-variants.{Accepted}
 use Rattle.recheck.specs.Recheck as check
@@ -83,7 +82,6 @@ module _ (m : Model) (hs ts : List ℕ) (ready : T (decides m hs ts)) where
     triples-left : ts′ ≡ triplesOf (m .symbols) (m .states) (left (productOf m) b) ++ drop (tripleCount m) ts
     unfolding triplesLeft
     triples-left = d .triples ∙ rw (T-true (decides m hs ts) ready)
-
 
   -- every verdict's rounds are few
   few-rounds : (v : Verdict) → IsVerdict (productOf m) v → rounds v ≤ bound (productOf m)

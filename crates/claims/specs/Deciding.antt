@@ -23,22 +23,17 @@ pub record Deciding (m : Model) (hs ts : List ℕ) : Type 0 where
       → ((n : ℕ) × (r ≡ Violation n)) ↔ Violates (productOf m)
   pub safe-exactly : (budget : ℕ) → bound (productOf m) ≤ budget → (r : Decision) (hs′ ts′ : List ℕ) → Decided m budget hs ts r hs′ ts′
       → ((n : ℕ) × (r ≡ Safe n)) ↔ (Violates (productOf m) → ⊥)
-
   -- Our own safe table is accepted by the check.
   pub safe-accepted : (budget n : ℕ) (hs′ ts′ : List ℕ) → Decided m budget hs ts (Safe n) hs′ ts′ → recheck m hs′ ts′ ≡ Accepted
-
   -- Demand 3. A verdict under one budget is the same under every larger one, the table too.
   pub same-more : (budget more : ℕ) → budget ≤ more → (r r′ : Decision) (hs′ hs″ ts′ ts″ : List ℕ) → Decided m budget hs ts r hs′ ts′ → Decided m more hs ts r′ hs″ ts″
       → (v : Verdict) → meaning r ≡ verdict v → (r′ ≡ r) × (hs″ ≡ hs′) × (ts″ ≡ ts′)
-
   -- No budget below the rounds of a verdict gives one: it is refusal 8.
   pub none-below : (budget less : ℕ) → (r r′ : Decision) (hs′ hs″ ts′ ts″ : List ℕ) → Decided m budget hs ts r hs′ ts′ → Decided m less hs ts r′ hs″ ts″
       → (v : Verdict) → meaning r ≡ verdict v → less < rounds v → r′ ≡ Spent less
-
   -- The budget symbols · states · (states + 1) always gives one.
   pub always-one : (budget : ℕ) → bound (productOf m) ≤ budget → (r : Decision) (hs′ ts′ : List ℕ) → Decided m budget hs ts r hs′ ts′
       → (v : Verdict) × (meaning r ≡ verdict v) × (rounds v ≤ bound (productOf m))
-
   -- No explanation of any violating fact is shallower than the rounds reported.
   pub no-shallower : (budget : ℕ) (r : Decision) (hs′ ts′ : List ℕ) → Decided m budget hs ts r hs′ ts′ → (v : Verdict) → meaning r ≡ verdict v
       → (f : Fact) (k : ℕ) → T (violating (productOf m) f) → Why (productOf m) f k → rounds v ≤ k

@@ -38,7 +38,7 @@ module _ (m : Model) (budget h t : ℕ) (v : Verdict) where
     pub long : longEnough m h t ≡ true
     pub verdict-is : product.answer (productOf m) budget ≡ some v
 
-  answered : verdict v ≡ decision m budget h t → Answered
+  pub answered : verdict v ≡ decision m budget h t → Answered
   unfolding decision
   answered e = go (valid m) refl (longEnough m h t) refl (product.answer (productOf m) budget) refl e
     where
@@ -85,8 +85,8 @@ module _ (m : Model) (budget : ℕ) (hs ts hs′ ts′ : List ℕ) {r : Decision
     valid-model = is-violation .valid-model;
     small = few-rounds;
     table =
-      ap₂ (view (m .symbols) (m .states)) laid-heads laid-triples
-      ∙ laid-view m (is-violation .valid-model) n (drop (headCount m) hs) (drop (tripleCount m) ts);
+        ap₂ (view (m .symbols) (m .states)) laid-heads laid-triples
+        ∙ laid-view m (is-violation .valid-model) n (drop (headCount m) hs) (drop (tripleCount m) ts);
   }
 
   -- the trace that was written from them

@@ -88,7 +88,13 @@ fn write_trace<'a>(
 }
 
 // Decides a model within a budget of rounds, and then writes the trace of a violation into the room, as far as it fits. A room of 0 cells is a room.
-pub fn trace(m: Model, budget: u32, heads: &mut [u16], triples: &mut [u16], room: &mut [u16]) -> Traced
+pub fn trace(
+    m: Model,
+    budget: u32,
+    heads: &mut [u16],
+    triples: &mut [u16],
+    room: &mut [u16],
+) -> Traced
     ensures { λ r. ⌜ Outcome m budget (now (heads .entry)) (now (triples .entry)) (now (room .entry)) r (now (heads .exit)) (now (triples .exit)) (now (room .exit)) ⌝ }
 {
     let d = decide::decide(m, budget, heads, triples);
