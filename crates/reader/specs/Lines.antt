@@ -18,12 +18,12 @@ use Rattle.reader.specs.Reading.{empty}
 abbrev pub fresh : Draft
 fresh = record { started = 0; model = empty }
 
--- the numbers of a row
-abbrev pub fourAt : List ℕ → ℕ → (a b c d : ℕ) → List ℕ
-fourAt rows i a b c d = set (set (set (set rows i a) (i + 1) b) (i + 2) c) (i + 3) d
-
+-- the numbers of a row that begins at i
 abbrev pub threeAt : List ℕ → ℕ → (a b c : ℕ) → List ℕ
 threeAt rows i a b c = set (set (set rows i a) (i + 1) b) (i + 2) c
+
+abbrev pub fourAt : List ℕ → ℕ → (a b c d : ℕ) → List ℕ
+fourAt rows i a b c d = set (threeAt rows i a b c) (i + 3) d
 
 -- the record with its sizes; with its start; with one final state, shown event, rule or move more
 abbrev pub withSize : Model → (g q e : ℕ) → Model
