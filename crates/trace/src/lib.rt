@@ -6,29 +6,29 @@ use model::Model;
 use table::Size;
 
 // How many symbols, states, rules and moves a model has.
-pub struct Counts {
-    pub size: Size,
-    pub rules: usize,
-    pub moves: usize,
+struct Counts {
+    size: Size,
+    rules: usize,
+    moves: usize,
 }
 
 // A fact whose run is asked for: a head, a triple; or none is needed.
-pub enum Goal {
+enum Goal {
     Nothing,
     Head(usize, usize),
     Triple(usize, usize, usize),
 }
 
 // An explanation: its rule and move, the head before the step, and the triples that are run after it.
-pub struct Cause {
-    pub rule: usize,
-    pub by: usize,
-    pub before: Goal,
-    pub first: Goal,
-    pub second: Goal,
+struct Cause {
+    rule: usize,
+    by: usize,
+    before: Goal,
+    first: Goal,
+    second: Goal,
 }
 
-pub enum Found {
+enum Found {
     By(Cause),
     Nowhere,
 }
@@ -88,7 +88,13 @@ fn write_trace<'a>(
 }
 
 // Decides a model within a budget of rounds, and then writes the trace of a violation into the room, as far as it fits. A room of 0 cells is a room.
-pub fn trace(m: Model, budget: u32, heads: &mut [u16], triples: &mut [u16], room: &mut [u16]) -> Traced
+pub fn trace(
+    m: Model,
+    budget: u32,
+    heads: &mut [u16],
+    triples: &mut [u16],
+    room: &mut [u16],
+) -> Traced
     ensures { λ r. ⌜ Outcome m budget (now (heads .entry)) (now (triples .entry)) (now (room .entry)) r (now (heads .exit)) (now (triples .exit)) (now (room .exit)) ⌝ }
 {
     let d = decide::decide(m, budget, heads, triples);
