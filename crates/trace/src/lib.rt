@@ -43,9 +43,9 @@ pub enum Traced {
     Cut(u16, usize),
 }
 
-mod culprit;
-mod steps;
-mod why;
+mod culprit; // the violating fact that is taken
+mod steps; // an explanation unfolded to steps
+mod why; // the search for an explanation
 
 // The trace of a violation after n rounds, into the room.
 fn write_trace<'a>(

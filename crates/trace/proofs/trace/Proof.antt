@@ -1,4 +1,4 @@
--- `trace::trace` meets its contract. Assumes nothing.
+-- `trace::trace` meets its contract: after a violation the arrays are the table of ranks that `write_trace` asks for. Assumes nothing.
 use borrow.Author.Needs.{needs}
 use mathlib.Core.Path.{refl}
 use Rattle.trace.proofs.Outcome.{ranked, outcome-traced, outcome-other}

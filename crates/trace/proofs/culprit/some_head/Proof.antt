@@ -1,4 +1,4 @@
--- `trace::culprit::some_head` meets its contract. Assumes nothing.
+-- `trace::culprit::some_head` meets its contract. The invariants are those of a search: nothing was found yet. Assumes nothing.
 use borrow.Author.Needs.{needs}
 use mathlib.Core.Option.{none}
 use mathlib.Core.Path.{_≡_, sym, ap}

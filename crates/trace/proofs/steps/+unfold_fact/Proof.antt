@@ -1,4 +1,5 @@
--- `trace::steps::unfold_fact` meets its contract. Assumes nothing.
+-- `trace::steps::unfold_fact` meets its contract. The measure is the rank of the fact, and it falls at each call: the search lets through only facts of
+-- lower rank. Assumes nothing.
 use borrow.Author.Needs.{needs}
 use Rattle.table.specs.Cells.{view}
 use Rattle.trace.specs.Answers.{rankOf}

@@ -1,4 +1,5 @@
--- `trace::why::explain` meets its contract. Assumes nothing.
+-- `trace::why::explain` meets its contract. The invariant of each loop is that nothing was found below its number; what is found first leaves all three.
+-- Assumes nothing.
 use borrow.Author.Needs.{needs}
 use Rattle.trace.specs.First.{firstOf}
 use Rattle.trace.specs.Search.{below, triedAt, byMove, byRule}
