@@ -1,33 +1,25 @@
 -- What is found has its rule and its move in range, and needs facts of lower rank only; and its steps are those of the trace. Assumes nothing.
-use mathlib.Core.Bool.{Bool, true, false, cond, _&&_}
-use mathlib.Core.List.{List, [], _∷_, _++_, append-nil}
+use mathlib.Core.Bool.{Bool}
+use mathlib.Core.List.{List, [], _∷_}
 use mathlib.Core.Option.{Option, none, some}
-use mathlib.Core.Path.{_≡_, refl, sym, ap, ap₂, _∙_, subst, subst⁻¹}
-use Prim.Native.Nat.{ℕ, zero, suc, _+_, _<_, _≤_}
+use mathlib.Core.Path.{_≡_, refl, subst, subst⁻¹}
+use Prim.Native.Nat.{ℕ, _<_}
 use native.Mathlib.Omega.{arith}
 use lib.Dec.{T, ltb→lt}
-use lib.ListN.{length}
-use Rattle.product.specs.Lists.{over, each, All, all, find, _∈_}
-use Rattle.product.specs.Product.{Product, Rule, exit, direct, call, Step, stored, ruleOf}
+use Rattle.product.specs.Lists.{All, all}
+use Rattle.product.specs.Product.{Rule, exit, direct, call, Step}
 use Rattle.product.specs.Facts.{Fact, head, triple, Way, needs, same, first, ways}
-use Rattle.product.specs.Rounds.{works, grown, held}
-use Rattle.product.specs.Table.{Table, ranks}
-use Rattle.product.specs.Trace.{explanation, along, alongFound, trace}
-use Rattle.product.proofs.Lists.{and-right, All-of, All-left, All-right, All-map, All-at, over-append, T-true}
-use Rattle.product.proofs.Rounds.{In, of-works, grown-up}
-use Rattle.product.proofs.Ranks.{ranks-rank}
-use Rattle.product.proofs.Falling.{unfolded, trace-later, trace-falls}
-use Rattle.product.proofs.Ways.{EachWay, steps-ways}
+use Rattle.product.specs.Table.{Table}
+use Rattle.product.specs.Trace.{trace}
+use Rattle.product.proofs.Lists.{and-right, All-of, All-left, All-right, All-at}
 use Rattle.model.specs.Model.{ruleAt, nextAt}
 use Rattle.trace.specs.declared.Goal.{Goal}
 use Rattle.trace.specs.declared.Goal.the-variants.{Head, Triple, Nothing}
 use Rattle.trace.specs.declared.Cause.{Cause}
 use Rattle.trace.specs.declared.Found.{Found}
-use Rattle.trace.specs.declared.Found.the-variants.{By, Nowhere}
-use Rattle.trace.specs.First.{firstOf}
-use Rattle.trace.specs.Search.{lower, explains, stepOf, source, chances, chancesTo, tried, triedAt, byMove, byRule, searched}
+use Rattle.trace.specs.declared.Found.the-variants.{By}
+use Rattle.trace.specs.Search.{lower, explains, stepOf, source, chancesTo, tried, triedAt, byMove, byRule, searched}
 use Rattle.trace.specs.Answers.{goalOf, firstIn, secondIn, causeOf, foundAs, rankOf}
-use Rattle.trace.specs.Unfold.{Explains, HeldFor, stepsFor}
 use Rattle.trace.proofs.First.{first-elim, find-elim}
 use Rattle.trace.proofs.Tried.{found-some}
 

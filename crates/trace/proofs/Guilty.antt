@@ -7,7 +7,7 @@ use native.Mathlib.Omega.{arith}
 use lib.Dec.{eqb}
 use Rattle.product.specs.Facts.{Fact, head, triple}
 use Rattle.trace.specs.declared.Goal.{Goal}
-use Rattle.trace.specs.declared.Goal.the-variants.{Head, Triple, Nothing}
+use Rattle.trace.specs.declared.Goal.the-variants.{Nothing}
 use Rattle.trace.specs.First.{orElse}
 use Rattle.trace.specs.Answers.{goalOf}
 use Rattle.trace.specs.Culprit.{goalAs, onlyIf}

@@ -2,7 +2,7 @@
 use mathlib.Core.Bool.{Bool, true, false, cond, _&&_}
 use mathlib.Core.List.{List, [], _∷_, _++_}
 use mathlib.Core.Option.{Option, none, some}
-use mathlib.Core.Path.{_≡_, refl, sym, ap, ap₂, _∙_, subst, subst⁻¹}
+use mathlib.Core.Path.{_≡_, refl, sym, ap, ap₂, _∙_}
 use Prim.Native.Nat.{ℕ, _<_, _≤_}
 use native.Mathlib.Omega.{arith}
 use lib.Dec.{T, leb, eqb}
@@ -10,7 +10,7 @@ use lib.ListN.{length, drop}
 use lib.Seq.{sets}
 use Rattle.product.specs.Product.{Product}
 use Rattle.product.specs.Verdict as product
-use Rattle.product.specs.Verdict.{Verdict, violation, safe, ran}
+use Rattle.product.specs.Verdict.{Verdict, violation, ran}
 use Rattle.product.specs.Table.{absent, ranks}
 use Rattle.product.proofs.Lists.{length-upTo}
 use Rattle.product.proofs.Budget.{answer-is}
@@ -27,8 +27,8 @@ use Rattle.decide.specs.Decided as decide
 use Rattle.decide.specs.Decided.{verdict, within, longEnough, headCount, tripleCount, decision, decides, headsLeft, triplesLeft, Decided}
 use Rattle.trace.specs.declared.Traced.{Traced}
 use Rattle.trace.specs.declared.Traced.the-variants.{Found, Invalid, Short, Spent, Safe, Cut}
-use Rattle.trace.specs.Written.{Ranked, violationSteps, fitted, Written}
-use Rattle.trace.specs.Outcome.{Answer, traced, refused, meaning, fits, tracedBy, stepsBy, Outcome}
+use Rattle.trace.specs.Written.{Ranked, violationSteps, Written}
+use Rattle.trace.specs.Outcome.{Answer, traced, refused, meaning, tracedBy, stepsBy, Outcome}
 use Rattle.trace.proofs.Laid.{laid-view}
 
 -- a verdict was answered: the model is valid, the arrays are long enough, and the rounds gave it

@@ -1,25 +1,22 @@
 -- The fact that is looked for in the two arrays is the product's culprit. Assumes nothing.
-use mathlib.Core.Bool.{Bool, true, false, not, cond, _&&_}
+use mathlib.Core.Bool.{Bool, true, false, _&&_}
 use mathlib.Core.List.{List, [], _∷_}
-use mathlib.Core.Option.{Option, none, some}
 use mathlib.Core.Path.{_≡_, refl, sym, ap, ap₂, _∙_}
 use Prim.Native.Nat.{ℕ, _<_}
-use lib.Dec.{T, eqb}
+use lib.Dec.{eqb}
 use borrow.Author.Tests.{eq-eqb, ne-eqb}
 use Rattle.product.specs.Lists.{upTo, over, each, find}
 use Rattle.product.specs.Facts.{Fact, head, triple, cells}
-use Rattle.product.specs.Rounds.{held}
 use Rattle.product.specs.Verdict.{violating}
-use Rattle.product.specs.Table.{Table, present, absent, ranks}
+use Rattle.product.specs.Table.{present, absent, ranks}
 use Rattle.product.specs.Trace.{culprit}
-use Rattle.product.proofs.Lists.{and-right}
 use Rattle.product.proofs.Ranks.{present-held}
 use Rattle.model.specs.declared.Model.{Model}
 use Rattle.model.specs.Model.{productOf}
 use Rattle.table.specs.Cells.{view}
-use Rattle.trace.specs.First.{orElse, firstOf}
-use Rattle.trace.specs.Culprit.{headAt, headOf, someHead, tripleAt, someTriple, culpritIn}
-use Rattle.trace.proofs.First.{first-same, first-only, first-idle, find-append, find-over, find-fails, find-elim}
+use Rattle.trace.specs.First.{orElse}
+use Rattle.trace.specs.Culprit.{headOf, someHead, tripleAt, someTriple, culpritIn}
+use Rattle.trace.proofs.First.{first-same, first-only, first-idle, find-append, find-over, find-fails}
 
 module _ (m : Model) (hs ts : List ℕ) where
   abbrev P : Fact → Bool

@@ -8,7 +8,7 @@ use lib.Dec.{ltb}
 use native.Mathlib.Omega.{arith}
 use borrow.Author.Tests.{eq-eqb, ne-eqb}
 use Rattle.product.specs.Lists.{all, find}
-use Rattle.product.specs.Facts.{Fact, head, triple, Way, needs, same, leaves, enters, backs, returns, meets}
+use Rattle.product.specs.Facts.{Fact, head, triple, Way, needs, same, enters, returns}
 use Rattle.product.specs.Rounds.{works}
 use Rattle.product.proofs.Lists.{all-append}
 use Rattle.model.specs.declared.Rule.{Rule}

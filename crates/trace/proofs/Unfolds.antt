@@ -1,5 +1,4 @@
 -- The steps of a fact are those of its explanation: the run of its head, the step, and the runs of its triples. Assumes nothing.
-use mathlib.Core.Bool.{Bool, true, false, cond, _||_}
 use mathlib.Core.List.{List, [], _∷_, _++_, append-nil}
 use mathlib.Core.Option.{Option, none, some}
 use mathlib.Core.Path.{_≡_, refl, sym, ap, ap₂, _∙_, subst, subst⁻¹}
@@ -7,7 +6,7 @@ use Prim.Native.Nat.{ℕ, zero, suc, _+_, _*_, _<_, _≤_}
 use native.Mathlib.Omega.{arith}
 use lib.Dec.{T}
 use lib.ListN.{length}
-use Rattle.product.specs.Lists.{over, each, All, find, _∈_}
+use Rattle.product.specs.Lists.{over, each, All}
 use Rattle.product.specs.Product.{Product, Rule, exit, direct, call, Step, stored, ruleOf}
 use Rattle.product.specs.Facts.{Fact, head, triple, Way, needs, same, first, ways}
 use Rattle.product.specs.Rounds.{works, held, Rank}

@@ -1,33 +1,31 @@
 -- The trace of the violating fact is the trace of the verdict; and whether it fits. Assumes nothing.
 use mathlib.Core.List.{List}
 use mathlib.Core.Option.{Option, none, some}
-use mathlib.Core.Path.{_≡_, refl, sym, ap, _∙_, subst, subst⁻¹}
+use mathlib.Core.Path.{_≡_, refl, ap, _∙_, subst, subst⁻¹}
 use mathlib.Core.Bool.{_&&_}
-use Prim.Native.Nat.{ℕ, _+_, _<_, _≤_}
+use Prim.Native.Nat.{ℕ, _<_, _≤_}
 use native.Mathlib.Omega.{arith}
-use lib.Dec.{T, leb}
+use lib.Dec.{T}
 use borrow.Author.Tests.{le-leb, lt-leb}
 use lib.ListN.{length}
 use Rattle.product.specs.Lists.{each}
 use Rattle.product.specs.Product.{Product, Step, stored}
 use Rattle.product.specs.Facts.{Fact, head, triple, cells}
 use Rattle.product.specs.Rounds.{held}
-use Rattle.product.specs.Verdict.{violating, violation}
-use Rattle.product.specs.Table.{ranks}
-use Rattle.product.specs.Trace.{culprit, trace, traceTo, traceOf}
+use Rattle.product.specs.Verdict.{violating}
+use Rattle.product.specs.Trace.{culprit, trace, traceTo}
 use Rattle.product.proofs.Lists.{and-right, length-each}
 use Rattle.model.specs.declared.Model.{Model}
 use Rattle.model.specs.Model.{productOf}
 use Rattle.model.proofs.Bounds.{start-state-in, start-symbol-in}
 use Rattle.table.specs.Cells.{view}
 use Rattle.trace.specs.declared.Goal.{Goal}
-use Rattle.trace.specs.declared.Traced.{Traced}
 use Rattle.trace.specs.declared.Traced.the-variants.{Found, Cut}
 use Rattle.trace.specs.Answers.{goalOf}
 use Rattle.trace.specs.Search.{whyIn}
 use Rattle.trace.specs.Culprit.{goalAs, culpritIn}
 use Rattle.trace.specs.Unfold.{Wrote, HeldFor, stepsFor, Unfolded}
-use Rattle.trace.specs.Written.{Ranked, violationSteps, fitted, Written}
+use Rattle.trace.specs.Written.{Ranked, violationSteps, Written}
 use Rattle.trace.proofs.First.{find-elim}
 use Rattle.trace.proofs.Taken.{culprit-found}
 use Rattle.trace.proofs.Ranked.{explains-ranked}

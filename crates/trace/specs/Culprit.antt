@@ -7,7 +7,7 @@ use lib.Dec.{eqb}
 use lib.ListN.{getD}
 use Rattle.product.specs.Lists.{find}
 use Rattle.product.specs.Facts.{Fact, head, triple}
-use Rattle.product.specs.Table.{Table, present, absent}
+use Rattle.product.specs.Table.{present, absent}
 use Rattle.table.specs.Cells.{headIn, tripleIn}
 use Rattle.trace.specs.declared.Goal.{Goal}
 use Rattle.trace.specs.declared.Goal.the-variants.{Nothing}

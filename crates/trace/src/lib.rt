@@ -6,29 +6,29 @@ use model::Model;
 use table::Size;
 
 // How many symbols, states, rules and moves a model has.
-pub struct Counts {
-    pub size: Size,
-    pub rules: usize,
-    pub moves: usize,
+struct Counts {
+    size: Size,
+    rules: usize,
+    moves: usize,
 }
 
 // A fact whose run is asked for: a head, a triple; or none is needed.
-pub enum Goal {
+enum Goal {
     Nothing,
     Head(usize, usize),
     Triple(usize, usize, usize),
 }
 
 // An explanation: its rule and move, the head before the step, and the triples that are run after it.
-pub struct Cause {
-    pub rule: usize,
-    pub by: usize,
-    pub before: Goal,
-    pub first: Goal,
-    pub second: Goal,
+struct Cause {
+    rule: usize,
+    by: usize,
+    before: Goal,
+    first: Goal,
+    second: Goal,
 }
 
-pub enum Found {
+enum Found {
     By(Cause),
     Nowhere,
 }
@@ -43,9 +43,9 @@ pub enum Traced {
     Cut(u16, usize),
 }
 
-mod culprit;
-mod steps;
-mod why;
+mod culprit; // the violating fact that is taken
+mod steps; // an explanation unfolded to steps
+mod why; // the search for an explanation
 
 // The trace of a violation after n rounds, into the room.
 fn write_trace<'a>(

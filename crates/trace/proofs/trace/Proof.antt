@@ -1,113 +1,86 @@
-use native.Mathlib.Omega.{arith}
+-- `trace::trace` meets its contract: after a violation the arrays are the table of ranks that `write_trace` asks for. Assumes nothing.
 use borrow.Author.Needs.{needs}
 use mathlib.Core.Path.{refl}
 use Rattle.trace.proofs.Outcome.{ranked, outcome-traced, outcome-other}
 use Rattle.trace.proofs.trace.Statement.{statement}
 use Rattle.trace.proofs.trace.Tie as tie
-use Rattle.trace.proofs.trace.Reads as reads
-use Rattle.trace.proofs.trace.Lts as lts
-use Rattle.decide.proofs.decide.Reads as decide-reads
-use Rattle.trace.proofs.write_trace.Reads as write-trace-reads
 
--- src/lib.rt:94:9
 decide-requires : tie.Need-decide-requires
 decide-requires c κs = search needs
 
--- src/lib.rt:96:29
 enum-known-d : tie.Need-enum-known-d
 enum-known-d c = search needs
 
--- src/lib.rt:96:35
 write-trace-requires : tie.Need-write-trace-requires
 write-trace-requires c κs =
     let a = c .before .before .before .before .before .before .before .before .before .before .before .before .before .before .before .before .args in
     ranked (a .m) (a .budget) (a .heads .now) (a .triples .now) _ _ (c .before .before .before .before .before .before .before .before .before .before .decide .ensures) _ (c .before .before .before .before .d .given .1)
 
--- src/lib.rt:97:24
 enum-known-d-2 : tie.Need-enum-known-d-2
 enum-known-d-2 c = search needs
 
--- src/lib.rt:98:30
 enum-told : tie.Need-enum-told
 enum-told c = search needs
 
--- src/lib.rt:99:28
 enum-told-2 : tie.Need-enum-told-2
 enum-told-2 c = search needs
 
--- src/lib.rt:100:25
 enum-known-d-3 : tie.Need-enum-known-d-3
 enum-known-d-3 c = search needs
 
--- src/lib.rt:91:1
 same-length : tie.Need-same-length
 same-length c = search needs
 
--- src/lib.rt:91:1
 same-length-2 : tie.Need-same-length-2
 same-length-2 c = search needs
 
--- src/lib.rt:91:1
 same-length-3 : tie.Need-same-length-3
 same-length-3 c = search needs
 
--- src/lib.rt:91:1
 returns : tie.Need-returns
 returns c =
     let a = c .before .before .before .before .before .before .before .before .before .before .before .before .before .before .before .before .before .before .before .args in
     outcome-traced (a .m) (a .budget) (a .heads .now) (a .triples .now) _ _ (c .before .before .before .before .before .before .before .before .before .before .before .before .before .decide .ensures) _ (c .before .before .before .before .before .before .before .d .given .1) (c .before .before .write-trace .ensures)
 
--- src/lib.rt:91:1
 same-length-4 : tie.Need-same-length-4
 same-length-4 c = search needs
 
--- src/lib.rt:91:1
 same-length-5 : tie.Need-same-length-5
 same-length-5 c = search needs
 
--- src/lib.rt:91:1
 returns-2 : tie.Need-returns-2
 returns-2 c =
     let a = c .before .before .before .before .before .before .before .before .before .before .before .before .before .args in
     outcome-other (a .m) (a .budget) (a .heads .now) (a .triples .now) _ _ (a .room .now) (c .before .before .before .before .before .before .before .decide .ensures) _ (c .before .d2 .given .1) _ refl refl
 
--- src/lib.rt:91:1
 same-length-6 : tie.Need-same-length-6
 same-length-6 c = search needs
 
--- src/lib.rt:91:1
 same-length-7 : tie.Need-same-length-7
 same-length-7 c = search needs
 
--- src/lib.rt:91:1
 returns-3 : tie.Need-returns-3
 returns-3 c =
     let a = c .before .before .before .before .before .before .before .before .before .before .before .before .args in
     outcome-other (a .m) (a .budget) (a .heads .now) (a .triples .now) _ _ (a .room .now) (c .before .before .before .before .before .before .decide .ensures) _ (c .enum-told .given .1) _ refl refl
 
--- src/lib.rt:91:1
 same-length-8 : tie.Need-same-length-8
 same-length-8 c = search needs
 
--- src/lib.rt:91:1
 same-length-9 : tie.Need-same-length-9
 same-length-9 c = search needs
 
--- src/lib.rt:91:1
 returns-4 : tie.Need-returns-4
 returns-4 c =
     let a = c .before .before .before .before .before .before .before .before .before .before .before .before .args in
     outcome-other (a .m) (a .budget) (a .heads .now) (a .triples .now) _ _ (a .room .now) (c .before .before .before .before .before .before .decide .ensures) _ (c .enum-told2 .given .1) _ refl refl
 
--- src/lib.rt:91:1
 same-length-10 : tie.Need-same-length-10
 same-length-10 c = search needs
 
--- src/lib.rt:91:1
 same-length-11 : tie.Need-same-length-11
 same-length-11 c = search needs
 
--- src/lib.rt:91:1
 returns-5 : tie.Need-returns-5
 returns-5 c =
     let a = c .before .before .before .before .before .before .before .before .before .before .before .before .before .args in

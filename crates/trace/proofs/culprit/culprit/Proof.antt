@@ -1,48 +1,36 @@
-use native.Mathlib.Omega.{arith}
+-- `trace::culprit::culprit` meets its contract. Assumes nothing.
 use borrow.Author.Needs.{needs}
 use Rattle.product.specs.Facts.{head, triple}
 use Rattle.trace.specs.Culprit.{someHead, someTriple}
 use Rattle.trace.proofs.Guilty.{goal-first, goal-second}
 use Rattle.trace.proofs.culprit.culprit.Statement.{statement}
 use Rattle.trace.proofs.culprit.culprit.Tie as tie
-use Rattle.trace.proofs.culprit.culprit.Reads as reads
-use Rattle.trace.proofs.culprit.culprit.Lts as lts
-use Rattle.trace.proofs.culprit.some_head.Reads as some-head-reads
-use Rattle.trace.proofs.culprit.some_triple.Reads as some-triple-reads
 
--- src/culprit.rt:77:9
 some-head-requires : tie.Need-some-head-requires
 some-head-requires c κs = search needs
 
--- src/culprit.rt:79:26
 enum-told : tie.Need-enum-told
 enum-told c = search needs
 
--- src/culprit.rt:79:26
 some-triple-requires : tie.Need-some-triple-requires
 some-triple-requires c κs = search needs
 
--- src/culprit.rt:80:20
 enum-known-f : tie.Need-enum-known-f
 enum-known-f c = search needs
 
--- src/culprit.rt:81:22
 enum-known-f-2 : tie.Need-enum-known-f-2
 enum-known-f-2 c = search needs
 
--- src/culprit.rt:74:1
 returns : tie.Need-returns
 returns c =
     let a = c .before .before .before .before .before .before .args in
     goal-second (someHead (a .finals .now) (a .size .symbols) (a .size .states) (a .heads .now)) (someTriple (a .finals .now) (a .size .symbols) (a .size .states) (a .triples .now) (a .s) (a .a)) (c .before .before .before .some-head .ensures) (c .before .enum-told .given .1) (c .some-triple .ensures)
 
--- src/culprit.rt:74:1
 returns-2 : tie.Need-returns-2
 returns-2 c =
     let a = c .before .before .before .before .before .before .args in
     goal-first (someHead (a .finals .now) (a .size .symbols) (a .size .states) (a .heads .now)) (someTriple (a .finals .now) (a .size .symbols) (a .size .states) (a .triples .now) (a .s) (a .a)) (head (c .before .f .given .0 .0) (c .before .f .given .0 .1 .0)) (c .before .before .before .some-head .ensures) (c .before .f .given .1)
 
--- src/culprit.rt:74:1
 returns-3 : tie.Need-returns-3
 returns-3 c =
     let a = c .before .before .before .before .before .before .args in

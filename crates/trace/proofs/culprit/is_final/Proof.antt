@@ -1,22 +1,17 @@
-use native.Mathlib.Omega.{arith}
+-- `trace::culprit::is_final` meets its contract. Assumes nothing.
 use borrow.Author.Needs.{needs}
 use mathlib.Core.Bool.{false}
 use mathlib.Core.Path.{sym}
 use lib.ListN.{List·getD-eq-default}
 use Rattle.trace.proofs.culprit.is_final.Statement.{statement}
 use Rattle.trace.proofs.culprit.is_final.Tie as tie
-use Rattle.trace.proofs.culprit.is_final.Reads as reads
-use Rattle.trace.proofs.culprit.is_final.Lts as lts
 
--- src/culprit.rt:13:9
 returns : tie.Need-returns
 returns c = sym (List·getD-eq-default (c .before .args .finals .now) false (c .if1 .taken))
 
--- src/culprit.rt:15:5
 shared-slice-read-result : tie.Need-shared-slice-read-result
 shared-slice-read-result c = search needs
 
--- src/culprit.rt:9:1
 returns-2 : tie.Need-returns-2
 returns-2 c = search needs
 

@@ -1,18 +1,16 @@
+-- `trace::culprit::some_head` meets its contract. The invariants are those of a search: nothing was found yet. Assumes nothing.
 use borrow.Author.Needs.{needs}
 use mathlib.Core.Option.{none}
 use mathlib.Core.Path.{_≡_, sym, ap}
 use Prim.Native.Nat.{_≤_, _-_}
-use Rattle.product.specs.Facts.{head, triple}
+use Rattle.product.specs.Facts.{head}
 use Rattle.trace.specs.First.{firstOf}
-use Rattle.trace.specs.Culprit.{goalAs, headAt, headOf, tripleAt}
+use Rattle.trace.specs.Culprit.{goalAs, headAt, headOf}
 use Rattle.trace.proofs.First.{first-none, first-more, first-here, first-done}
 use Rattle.trace.proofs.Guilty.{only-no, only-yes}
 use native.Mathlib.Omega.{arith}
 use Rattle.trace.proofs.culprit.some_head.Statement.{statement}
 use Rattle.trace.proofs.culprit.some_head.Tie as tie
-use Rattle.trace.proofs.culprit.some_head.Reads as reads
-use Rattle.trace.proofs.culprit.some_head.Lts as lts
-use Rattle.trace.proofs.culprit.guilty_head.Reads as guilty-head-reads
 
 abbrev Inv-symbols : tie.InvT-symbols
 Inv-symbols finals heads size states symbols q g₀ g = (g ≤ size .symbols) × (firstOf (headAt finals (size .symbols) (size .states) heads q) g ≡ none)
@@ -26,61 +24,48 @@ Inv-found finals heads size states symbols q₀ q = (q ≤ size .states) × (fir
 abbrev μ-found : tie.MeasureT-found
 μ-found finals heads size states symbols q₀ q = size .states - q
 
--- src/culprit.rt:40:18
 cast-states : tie.Need-cast-states Inv-symbols μ-symbols Inv-found μ-found
 cast-states c = search needs
 
--- src/culprit.rt:41:19
 cast-symbols : tie.Need-cast-symbols Inv-symbols μ-symbols Inv-found μ-found
 cast-symbols c = search needs
 
--- src/culprit.rt:43:5
 found-holds : tie.Need-found-holds Inv-symbols μ-symbols Inv-found μ-found
 found-holds c = (omega arith, first-none _)
 
--- src/culprit.rt:48:9
 symbols-holds : tie.Need-symbols-holds Inv-symbols μ-symbols Inv-found μ-found
 symbols-holds c = (omega arith, first-none _)
 
--- src/culprit.rt:49:16
 guilty-head-requires : tie.Need-guilty-head-requires Inv-symbols μ-symbols Inv-found μ-found
 guilty-head-requires c κs = search needs
 
--- src/culprit.rt:52:13
 add-g : tie.Need-add-g Inv-symbols μ-symbols Inv-found μ-found
 add-g c = search needs
 
--- src/culprit.rt:48:9
 symbols-less : tie.Need-symbols-less Inv-symbols μ-symbols Inv-found μ-found
 symbols-less c = search needs
 
--- src/culprit.rt:48:9
 symbols-again : tie.Need-symbols-again Inv-symbols μ-symbols Inv-found μ-found
 symbols-again c =
     let a = c .before .before .before .before .before .before .before .before .before .args in
     (omega arith, first-more (headAt (a .finals .now) (a .size .symbols) (a .size .states) (a .heads .now) (c .before .before .before .before .before .found .q)) (c .before .before .before .symbols .g) (c .before .before .before .symbols .inv .1) (only-no (head (c .before .before .before .before .before .found .q) (c .before .before .before .symbols .g)) (c .before .guilty-head .ensures) (c .if2 .left)))
 
--- src/culprit.rt:54:9
 add-q : tie.Need-add-q Inv-symbols μ-symbols Inv-found μ-found
 add-q c = search needs
 
--- src/culprit.rt:43:5
 found-less : tie.Need-found-less Inv-symbols μ-symbols Inv-found μ-found
 found-less c = search needs
 
--- src/culprit.rt:43:5
 found-again : tie.Need-found-again Inv-symbols μ-symbols Inv-found μ-found
 found-again c =
     let a = c .before .before .before .before .before .before .before .args in
     (omega arith, first-more (headOf (a .finals .now) (a .size .symbols) (a .size .states) (a .heads .now)) (c .before .before .before .found .q) (c .before .before .before .found .inv .1) (first-done (headAt (a .finals .now) (a .size .symbols) (a .size .states) (a .heads .now) (c .before .before .before .found .q)) (a .size .symbols) (c .before .symbols .g) (c .before .symbols .inv .0) (omega arith) (c .before .symbols .inv .1)))
 
--- src/culprit.rt:37:1
 returns : tie.Need-returns Inv-symbols μ-symbols Inv-found μ-found
 returns c =
     let a = c .before .before .before .before .before .args in
     sym (ap goalAs (first-done (headOf (a .finals .now) (a .size .symbols) (a .size .states) (a .heads .now)) (a .size .states) (c .before .found .q) (c .before .found .inv .0) (c .if1 .taken) (c .before .found .inv .1)))
 
--- src/culprit.rt:37:1
 returns-2 : tie.Need-returns-2 Inv-symbols μ-symbols Inv-found μ-found
 returns-2 c =
     let a = c .before .before .before .before .before .before .before .before .before .args in

@@ -1,3 +1,5 @@
+-- `trace::steps::unfold_fact` meets its contract. The measure is the rank of the fact, and it falls at each call: the search lets through only facts of
+-- lower rank. Assumes nothing.
 use borrow.Author.Needs.{needs}
 use Rattle.table.specs.Cells.{view}
 use Rattle.trace.specs.Answers.{rankOf}
@@ -28,7 +30,6 @@ abbrev unfold-fact-below : ℕ → In 2 unfold-fact-kinds.ps
 unfold-fact-below t =
     and 2 unfold-fact-kinds.ps (falls 2 unfold-fact-kinds.ps _<_ μ-unfold-fact t) unfold-fact.Pre
 
--- src/steps.rt:33:9
 unfold-fact-returns : (t : ℕ) → unfold-fact-lts.Need-returns (
   rank-of-reads.Asked,
   rank-of-reads.Learnt,
@@ -43,7 +44,6 @@ unfold-fact-returns t c =
     let a = c .before .before .before .before .args in
     unfolded-cut (view (a .n .size .symbols) (a .n .size .states) (a .heads .now) (a .triples .now)) (whyIn (a .rules .now) (a .moves .now) (a .shows .now) (a .n .size .symbols) (a .n .size .states) (a .heads .now) (a .triples .now) (a .n .rules) (a .n .moves)) (a .f) (c .if1 .taken) (c .before .before .before .before .pre .1 .place-in)
 
--- src/steps.rt:35:9
 unfold-fact-rank-of-requires : (t : ℕ) → unfold-fact-lts.Need-rank-of-requires (
   rank-of-reads.Asked,
   rank-of-reads.Learnt,
@@ -56,7 +56,6 @@ unfold-fact-rank-of-requires : (t : ℕ) → unfold-fact-lts.Need-rank-of-requir
 ) (unfold-fact-at t) unfold-fact.Post
 unfold-fact-rank-of-requires t c κs = search needs
 
--- src/steps.rt:37:9
 unfold-fact-returns-2 : (t : ℕ) → unfold-fact-lts.Need-returns-2 (
   rank-of-reads.Asked,
   rank-of-reads.Learnt,
@@ -71,7 +70,6 @@ unfold-fact-returns-2 t c =
     let a = c .before .before .before .before .before .before .before .args in
     unfolded-start (view (a .n .size .symbols) (a .n .size .states) (a .heads .now) (a .triples .now)) (whyIn (a .rules .now) (a .moves .now) (a .shows .now) (a .n .size .symbols) (a .n .size .states) (a .heads .now) (a .triples .now) (a .n .rules) (a .n .moves)) (a .f) (c .before .before .before .before .before .before .before .pre .1 .place-in) (c .before .rank-of .ensures) (c .if2 .taken)
 
--- src/steps.rt:39:9
 unfold-fact-explain-requires : (t : ℕ) → unfold-fact-lts.Need-explain-requires (
   rank-of-reads.Asked,
   rank-of-reads.Learnt,
@@ -84,7 +82,6 @@ unfold-fact-explain-requires : (t : ℕ) → unfold-fact-lts.Need-explain-requir
 ) (unfold-fact-at t) unfold-fact.Post
 unfold-fact-explain-requires t c κs = search needs
 
--- src/steps.rt:41:27
 unfold-fact-enum-told : (t : ℕ) → unfold-fact-lts.Need-enum-told (
   rank-of-reads.Asked,
   rank-of-reads.Learnt,
@@ -97,7 +94,6 @@ unfold-fact-enum-told : (t : ℕ) → unfold-fact-lts.Need-enum-told (
 ) (unfold-fact-at t) unfold-fact.Post
 unfold-fact-enum-told t c = search needs
 
--- src/steps.rt:42:19
 unfold-fact-enum-known-w : (t : ℕ) → unfold-fact-lts.Need-enum-known-w (
   rank-of-reads.Asked,
   rank-of-reads.Learnt,
@@ -110,7 +106,6 @@ unfold-fact-enum-known-w : (t : ℕ) → unfold-fact-lts.Need-enum-known-w (
 ) (unfold-fact-at t) unfold-fact.Post
 unfold-fact-enum-known-w t c = search needs
 
--- src/steps.rt:46:17
 unfold-fact-unfold-fact-requires : (t : ℕ) → unfold-fact-lts.Need-unfold-fact-requires (
   rank-of-reads.Asked,
   rank-of-reads.Learnt,
@@ -126,7 +121,6 @@ unfold-fact-unfold-fact-requires t c κs =
     let z = found-falls (a .rules .now) (a .moves .now) (a .shows .now) (a .n .rules) (a .n .moves) (a .n .size .states) (view (a .n .size .symbols) (a .n .size .states) (a .heads .now) (a .triples .now)) (c .before .before .before .before .before .before .rank-of .result) (a .f) (c .before .before .before .before .before .if2 .left) (c .before .before .before .before .explain .ensures) (c .before .before .w .given .1) in
     (omega (arith, z .before-lower, c .before .before .before .before .before .before .rank-of .ensures, c .before .before .before .before .before .before .before .before .before .before .before .before .pre .0), record { rules-in = c .before .before .before .before .before .before .before .before .before .before .before .before .pre .1 .rules-in; moves-in = c .before .before .before .before .before .before .before .before .before .before .before .before .pre .1 .moves-in; place-in = c .before .before .before .before .before .before .before .before .before .before .before .before .pre .1 .place-in })
 
--- src/steps.rt:47:17
 unfold-fact-put-requires : (t : ℕ) → unfold-fact-lts.Need-put-requires (
   rank-of-reads.Asked,
   rank-of-reads.Learnt,
@@ -142,7 +136,6 @@ unfold-fact-put-requires t c κs =
     let z = found-falls (a .rules .now) (a .moves .now) (a .shows .now) (a .n .rules) (a .n .moves) (a .n .size .states) (view (a .n .size .symbols) (a .n .size .states) (a .heads .now) (a .triples .now)) (c .before .before .before .before .before .before .before .before .before .before .rank-of .result) (a .f) (c .before .before .before .before .before .before .before .before .before .if2 .left) (c .before .before .before .before .before .before .before .before .explain .ensures) (c .before .before .before .before .before .before .w .given .1) in
     (omega (arith, z .rule-in, c .before .before .before .before .before .before .before .before .before .before .before .before .before .before .before .before .pre .1 .rules-in), omega (arith, z .move-in, c .before .before .before .before .before .before .before .before .before .before .before .before .before .before .before .before .pre .1 .moves-in))
 
--- src/steps.rt:48:17
 unfold-fact-unfold-fact-requires-2 : (t : ℕ) → unfold-fact-lts.Need-unfold-fact-requires-2 (
   rank-of-reads.Asked,
   rank-of-reads.Learnt,
@@ -158,7 +151,6 @@ unfold-fact-unfold-fact-requires-2 t c κs =
     let z = found-falls (a .rules .now) (a .moves .now) (a .shows .now) (a .n .rules) (a .n .moves) (a .n .size .states) (view (a .n .size .symbols) (a .n .size .states) (a .heads .now) (a .triples .now)) (c .before .before .before .before .before .before .before .before .before .before .before .before .before .before .rank-of .result) (a .f) (c .before .before .before .before .before .before .before .before .before .before .before .before .before .if2 .left) (c .before .before .before .before .before .before .before .before .before .before .before .before .explain .ensures) (c .before .before .before .before .before .before .before .before .before .before .w .given .1) in
     (omega (arith, z .first-lower, c .before .before .before .before .before .before .before .before .before .before .before .before .before .before .rank-of .ensures, c .before .before .before .before .before .before .before .before .before .before .before .before .before .before .before .before .before .before .before .before .pre .0), record { rules-in = c .before .before .before .before .before .before .before .before .before .before .before .before .before .before .before .before .before .before .before .before .pre .1 .rules-in; moves-in = c .before .before .before .before .before .before .before .before .before .before .before .before .before .before .before .before .before .before .before .before .pre .1 .moves-in; place-in = omega (arith, c .before .before .before .put .ensures .place, c .before .before .before .put .kept .0) })
 
--- src/steps.rt:49:13
 unfold-fact-unfold-fact-requires-3 : (t : ℕ) → unfold-fact-lts.Need-unfold-fact-requires-3 (
   rank-of-reads.Asked,
   rank-of-reads.Learnt,
@@ -174,7 +166,6 @@ unfold-fact-unfold-fact-requires-3 t c κs =
     let z = found-falls (a .rules .now) (a .moves .now) (a .shows .now) (a .n .rules) (a .n .moves) (a .n .size .states) (view (a .n .size .symbols) (a .n .size .states) (a .heads .now) (a .triples .now)) (c .before .before .before .before .before .before .before .before .before .before .before .before .before .before .before .before .before .before .rank-of .result) (a .f) (c .before .before .before .before .before .before .before .before .before .before .before .before .before .before .before .before .before .if2 .left) (c .before .before .before .before .before .before .before .before .before .before .before .before .before .before .before .before .explain .ensures) (c .before .before .before .before .before .before .before .before .before .before .before .before .before .before .w .given .1) in
     (omega (arith, z .second-lower, c .before .before .before .before .before .before .before .before .before .before .before .before .before .before .before .before .before .before .rank-of .ensures, c .before .before .before .before .before .before .before .before .before .before .before .before .before .before .before .before .before .before .before .before .before .before .before .before .pre .0), record { rules-in = c .before .before .before .before .before .before .before .before .before .before .before .before .before .before .before .before .before .before .before .before .before .before .before .before .pre .1 .rules-in; moves-in = c .before .before .before .before .before .before .before .before .before .before .before .before .before .before .before .before .before .before .before .before .before .before .before .before .pre .1 .moves-in; place-in = omega (arith, c .before .before .before .unfold-fact2 .ensures .within, c .before .before .before .unfold-fact2 .kept .0) })
 
--- src/steps.rt:28:1
 unfold-fact-returns-3 : (t : ℕ) → unfold-fact-lts.Need-returns-3 (
   rank-of-reads.Asked,
   rank-of-reads.Learnt,
@@ -189,7 +180,6 @@ unfold-fact-returns-3 t c =
     let a = c .before .before .before .before .before .before .before .before .before .before .args in
     unfolded-none (view (a .n .size .symbols) (a .n .size .states) (a .heads .now) (a .triples .now)) (whyIn (a .rules .now) (a .moves .now) (a .shows .now) (a .n .size .symbols) (a .n .size .states) (a .heads .now) (a .triples .now) (a .n .rules) (a .n .moves)) (a .f) (c .before .before .before .before .before .before .before .before .before .before .pre .1 .place-in) (c .before .before .before .before .rank-of .ensures) (c .before .before .before .if2 .left) (c .before .before .explain .ensures) (c .enum-told .given .1)
 
--- src/steps.rt:28:1
 unfold-fact-same-length : (t : ℕ) → unfold-fact-lts.Need-same-length (
   rank-of-reads.Asked,
   rank-of-reads.Learnt,
@@ -202,7 +192,6 @@ unfold-fact-same-length : (t : ℕ) → unfold-fact-lts.Need-same-length (
 ) (unfold-fact-at t) unfold-fact.Post
 unfold-fact-same-length t c = search needs
 
--- src/steps.rt:28:1
 unfold-fact-returns-4 : (t : ℕ) → unfold-fact-lts.Need-returns-4 (
   rank-of-reads.Asked,
   rank-of-reads.Learnt,

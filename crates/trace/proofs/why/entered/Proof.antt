@@ -1,30 +1,23 @@
-use native.Mathlib.Omega.{arith}
+-- `trace::why::entered` meets its contract. Assumes nothing.
 use borrow.Author.Needs.{needs}
 use Rattle.trace.specs.Search.{below}
 use Rattle.trace.proofs.Tried.{enters-elsewhere, enters-other, enters-it}
 use Rattle.trace.proofs.why.entered.Statement.{statement}
 use Rattle.trace.proofs.why.entered.Tie as tie
-use Rattle.trace.proofs.why.entered.Reads as reads
-use Rattle.trace.proofs.why.entered.Lts as lts
-use Rattle.trace.proofs.why.if_lower.Reads as if-lower-reads
 
--- src/why.rt:64:9
 returns : tie.Need-returns
 returns c =
     let a = c .before .before .before .args in
     enters-elsewhere (below (a .size .symbols) (a .size .states) (a .heads .now) (a .triples .now) (a .k)) (a .q) (a .g) (a .r) (a .v) (a .x) (a .a) (a .y) (a .g1) (c .if1 .taken)
 
--- src/why.rt:67:9
 returns-2 : tie.Need-returns-2
 returns-2 c =
     let a = c .before .before .before .before .args in
     enters-other (below (a .size .symbols) (a .size .states) (a .heads .now) (a .triples .now) (a .k)) (a .q) (a .g) (a .r) (a .v) (a .x) (a .a) (a .y) (a .g1) (c .before .if1 .left) (c .if2 .taken)
 
--- src/why.rt:69:5
 if-lower-requires : tie.Need-if-lower-requires
 if-lower-requires c κs = search needs
 
--- src/why.rt:60:1
 returns-3 : tie.Need-returns-3
 returns-3 c =
     let a = c .before .before .before .before .before .args in

@@ -1,3 +1,5 @@
+-- `trace::why::explain` meets its contract. The invariant of each loop is that nothing was found below its number; what is found first leaves all three.
+-- Assumes nothing.
 use borrow.Author.Needs.{needs}
 use Rattle.trace.specs.First.{firstOf}
 use Rattle.trace.specs.Search.{below, triedAt, byMove, byRule}
@@ -10,9 +12,6 @@ use Prim.Native.Nat.{_≤_, _-_}
 use native.Mathlib.Omega.{arith}
 use Rattle.trace.proofs.why.explain.Statement.{statement}
 use Rattle.trace.proofs.why.explain.Tie as tie
-use Rattle.trace.proofs.why.explain.Reads as reads
-use Rattle.trace.proofs.why.explain.Lts as lts
-use Rattle.trace.proofs.why.tried.Reads as tried-reads
 
 abbrev Inv-states : tie.InvT-states
 Inv-states rules moves shows heads triples n k f size states r v x₀ x = (x ≤ n .size .states) × (firstOf (triedAt rules moves shows (below (n .size .symbols) (n .size .states) heads triples k) f r v) x ≡ none)
@@ -32,85 +31,68 @@ Inv-found rules moves shows heads triples n k f size states r₀ r = (r ≤ n .r
 abbrev μ-found : tie.MeasureT-found
 μ-found rules moves shows heads triples n k f size states r₀ r = n .rules - r
 
--- src/why.rt:161:18
 cast-states : tie.Need-cast-states Inv-states μ-states Inv-moves μ-moves Inv-found μ-found
 cast-states c = search needs
 
--- src/why.rt:163:5
 found-holds : tie.Need-found-holds Inv-states μ-states Inv-moves μ-moves Inv-found μ-found
 found-holds c =
     (omega arith, first-none _)
 
--- src/why.rt:168:9
 moves-holds : tie.Need-moves-holds Inv-states μ-states Inv-moves μ-moves Inv-found μ-found
 moves-holds c =
     (omega arith, first-none _)
 
--- src/why.rt:170:13
 states-holds : tie.Need-states-holds Inv-states μ-states Inv-moves μ-moves Inv-found μ-found
 states-holds c =
     (omega arith, first-none _)
 
--- src/why.rt:171:21
 tried-requires : tie.Need-tried-requires Inv-states μ-states Inv-moves μ-moves Inv-found μ-found
 tried-requires c κs = search needs
 
--- src/why.rt:172:34
 enum-known-w : tie.Need-enum-known-w Inv-states μ-states Inv-moves μ-moves Inv-found μ-found
 enum-known-w c = search needs
 
 enum-told : tie.Need-enum-told Inv-states μ-states Inv-moves μ-moves Inv-found μ-found
 enum-told c = search needs
 
--- src/why.rt:175:17
 add-x : tie.Need-add-x Inv-states μ-states Inv-moves μ-moves Inv-found μ-found
 add-x c = search needs
 
--- src/why.rt:170:13
 states-less : tie.Need-states-less Inv-states μ-states Inv-moves μ-moves Inv-found μ-found
 states-less c = search needs
 
--- src/why.rt:170:13
 states-again : tie.Need-states-again Inv-states μ-states Inv-moves μ-moves Inv-found μ-found
 states-again c =
     let a = c .before .before .before .before .before .before .before .before .before .before .before .before .before .before .before .args in
     (omega arith, first-more (triedAt (a .rules .now) (a .moves .now) (a .shows .now) (below (a .n .size .symbols) (a .n .size .states) (a .heads .now) (a .triples .now) (a .k)) (a .f) (c .before .before .before .before .before .before .before .before .before .before .found .r) (c .before .before .before .before .before .before .before .moves .v)) (c .before .before .before .before .states .x) (c .before .before .before .before .states .inv .1) (found-none (triedAt (a .rules .now) (a .moves .now) (a .shows .now) (below (a .n .size .symbols) (a .n .size .states) (a .heads .now) (a .triples .now) (a .k)) (a .f) (c .before .before .before .before .before .before .before .before .before .before .found .r) (c .before .before .before .before .before .before .before .moves .v) (c .before .before .before .before .states .x)) (c .before .before .tried .ensures) (c .enum-told .given .1)))
 
--- src/why.rt:177:13
 add-v : tie.Need-add-v Inv-states μ-states Inv-moves μ-moves Inv-found μ-found
 add-v c = search needs
 
--- src/why.rt:168:9
 moves-less : tie.Need-moves-less Inv-states μ-states Inv-moves μ-moves Inv-found μ-found
 moves-less c = search needs
 
--- src/why.rt:168:9
 moves-again : tie.Need-moves-again Inv-states μ-states Inv-moves μ-moves Inv-found μ-found
 moves-again c =
     let a = c .before .before .before .before .before .before .before .before .before .before .before .before .args in
     (omega arith, first-more (byMove (a .rules .now) (a .moves .now) (a .shows .now) (below (a .n .size .symbols) (a .n .size .states) (a .heads .now) (a .triples .now) (a .k)) (a .f) (a .n .size .states) (c .before .before .before .before .before .before .before .found .r)) (c .before .before .before .before .moves .v) (c .before .before .before .before .moves .inv .1) (first-done (triedAt (a .rules .now) (a .moves .now) (a .shows .now) (below (a .n .size .symbols) (a .n .size .states) (a .heads .now) (a .triples .now) (a .k)) (a .f) (c .before .before .before .before .before .before .before .found .r) (c .before .before .before .before .moves .v)) (a .n .size .states) (c .before .states .x) (c .before .states .inv .0) (omega arith) (c .before .states .inv .1)))
 
--- src/why.rt:179:9
 add-r : tie.Need-add-r Inv-states μ-states Inv-moves μ-moves Inv-found μ-found
 add-r c = search needs
 
--- src/why.rt:163:5
 found-less : tie.Need-found-less Inv-states μ-states Inv-moves μ-moves Inv-found μ-found
 found-less c = search needs
 
--- src/why.rt:163:5
 found-again : tie.Need-found-again Inv-states μ-states Inv-moves μ-moves Inv-found μ-found
 found-again c =
     let a = c .before .before .before .before .before .before .before .before .before .before .args in
     (omega arith, first-more (byRule (a .rules .now) (a .moves .now) (a .shows .now) (below (a .n .size .symbols) (a .n .size .states) (a .heads .now) (a .triples .now) (a .k)) (a .f) (a .n .moves) (a .n .size .states)) (c .before .before .before .before .before .found .r) (c .before .before .before .before .before .found .inv .1) (first-done (byMove (a .rules .now) (a .moves .now) (a .shows .now) (below (a .n .size .symbols) (a .n .size .states) (a .heads .now) (a .triples .now) (a .k)) (a .f) (a .n .size .states) (c .before .before .before .before .before .found .r)) (a .n .moves) (c .before .before .moves .v) (c .before .before .moves .inv .0) (omega arith) (c .before .before .moves .inv .1)))
 
--- src/why.rt:158:1
 returns : tie.Need-returns Inv-states μ-states Inv-moves μ-moves Inv-found μ-found
 returns c =
     let a = c .before .before .before .before .before .before .before .args in
     sym (ap foundAs (first-done (byRule (a .rules .now) (a .moves .now) (a .shows .now) (below (a .n .size .symbols) (a .n .size .states) (a .heads .now) (a .triples .now) (a .k)) (a .f) (a .n .moves) (a .n .size .states)) (a .n .rules) (c .before .before .found .r) (c .before .before .found .inv .0) (c .if1 .taken) (c .before .before .found .inv .1)))
 
--- src/why.rt:158:1
 returns-2 : tie.Need-returns-2 Inv-states μ-states Inv-moves μ-moves Inv-found μ-found
 returns-2 c =
     let a = c .before .before .before .before .before .before .before .before .before .before .before .before .before .before .before .before .args in

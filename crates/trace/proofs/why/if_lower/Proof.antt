@@ -1,45 +1,35 @@
-use native.Mathlib.Omega.{arith}
+-- `trace::why::if_lower` meets its contract. Assumes nothing.
 use borrow.Author.Needs.{needs}
 use Rattle.trace.specs.Search.{below}
 use borrow.Author.Tests.{not-true, not-false}
 use Rattle.trace.proofs.Tried.{lacks-before, lacks-first, lacks-second, has-all}
 use Rattle.trace.proofs.why.if_lower.Statement.{statement}
 use Rattle.trace.proofs.why.if_lower.Tie as tie
-use Rattle.trace.proofs.why.if_lower.Reads as reads
-use Rattle.trace.proofs.why.if_lower.Lts as lts
-use Rattle.trace.proofs.why.is_lower.Reads as is-lower-reads
 
--- src/why.rt:45:9
 is-lower-requires : tie.Need-is-lower-requires
 is-lower-requires c κs = search needs
 
--- src/why.rt:46:9
 returns : tie.Need-returns
 returns c =
     let a = c .before .before .before .before .args in
     lacks-before (below (a .size .symbols) (a .size .states) (a .heads .now) (a .triples .now) (a .k)) (a .c) (c .before .is-lower .ensures) (not-true _ (c .if1 .taken))
 
--- src/why.rt:49:9
 is-lower-requires-2 : tie.Need-is-lower-requires-2
 is-lower-requires-2 c κs = search needs
 
--- src/why.rt:50:9
 returns-2 : tie.Need-returns-2
 returns-2 c =
     let a = c .before .before .before .before .before .before .args in
     lacks-first (below (a .size .symbols) (a .size .states) (a .heads .now) (a .triples .now) (a .k)) (a .c) (c .before .before .before .is-lower .ensures) (c .before .is-lower2 .ensures) (not-false _ (c .before .before .if1 .left)) (not-true _ (c .if2 .taken))
 
--- src/why.rt:53:9
 is-lower-requires-3 : tie.Need-is-lower-requires-3
 is-lower-requires-3 c κs = search needs
 
--- src/why.rt:54:9
 returns-3 : tie.Need-returns-3
 returns-3 c =
     let a = c .before .before .before .before .before .before .before .before .args in
     lacks-second (below (a .size .symbols) (a .size .states) (a .heads .now) (a .triples .now) (a .k)) (a .c) (c .before .before .before .before .before .is-lower .ensures) (c .before .before .before .is-lower2 .ensures) (c .before .is-lower3 .ensures) (not-false _ (c .before .before .before .before .if1 .left)) (not-false _ (c .before .before .if2 .left)) (not-true _ (c .if3 .taken))
 
--- src/why.rt:41:1
 returns-4 : tie.Need-returns-4
 returns-4 c =
     let a = c .before .before .before .before .before .before .before .before .args in

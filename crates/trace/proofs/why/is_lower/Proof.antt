@@ -1,42 +1,30 @@
-use native.Mathlib.Omega.{arith}
+-- `trace::why::is_lower` meets its contract. Assumes nothing.
 use borrow.Author.Needs.{needs}
 use Rattle.trace.proofs.Tried.{lower-one}
 use Rattle.trace.proofs.why.is_lower.Statement.{statement}
 use Rattle.trace.proofs.why.is_lower.Tie as tie
-use Rattle.trace.proofs.why.is_lower.Reads as reads
-use Rattle.trace.proofs.why.is_lower.Lts as lts
-use Rattle.table.proofs.head_at.Reads as head-at-reads
-use Rattle.table.proofs.triple_at.Reads as triple-at-reads
 
--- src/why.rt:34:26
 enum-told : tie.Need-enum-told
 enum-told c = search needs
 
--- src/why.rt:35:20
 enum-known-f : tie.Need-enum-known-f
 enum-known-f c = search needs
 
--- src/why.rt:35:29
 head-at-requires : tie.Need-head-at-requires
 head-at-requires c κs = search needs
 
--- src/why.rt:36:22
 enum-known-f-2 : tie.Need-enum-known-f-2
 enum-known-f-2 c = search needs
 
--- src/why.rt:36:34
 triple-at-requires : tie.Need-triple-at-requires
 triple-at-requires c κs = search needs
 
--- src/why.rt:30:1
 returns : tie.Need-returns
 returns c = search needs
 
--- src/why.rt:30:1
 returns-2 : tie.Need-returns-2
 returns-2 c = rw (c .before .before .f .given .1) (lower-one _ (c .head-at .ensures))
 
--- src/why.rt:30:1
 returns-3 : tie.Need-returns-3
 returns-3 c = rw (c .before .before .f2 .given .1) (lower-one _ (c .triple-at .ensures))
 

@@ -1,41 +1,29 @@
-use native.Mathlib.Omega.{arith}
+-- `trace::why::rank_of` meets its contract. Assumes nothing.
 use borrow.Author.Needs.{needs}
 use Rattle.trace.proofs.why.rank_of.Statement.{statement}
 use Rattle.trace.proofs.why.rank_of.Tie as tie
-use Rattle.trace.proofs.why.rank_of.Reads as reads
-use Rattle.trace.proofs.why.rank_of.Lts as lts
-use Rattle.table.proofs.head_at.Reads as head-at-reads
-use Rattle.table.proofs.triple_at.Reads as triple-at-reads
 
--- src/why.rt:23:26
 enum-told : tie.Need-enum-told
 enum-told c = search needs
 
--- src/why.rt:24:20
 enum-known-f : tie.Need-enum-known-f
 enum-known-f c = search needs
 
--- src/why.rt:24:29
 head-at-requires : tie.Need-head-at-requires
 head-at-requires c κs = search needs
 
--- src/why.rt:25:22
 enum-known-f-2 : tie.Need-enum-known-f-2
 enum-known-f-2 c = search needs
 
--- src/why.rt:25:34
 triple-at-requires : tie.Need-triple-at-requires
 triple-at-requires c κs = search needs
 
--- src/why.rt:19:1
 returns : tie.Need-returns
 returns c = search needs
 
--- src/why.rt:19:1
 returns-2 : tie.Need-returns-2
 returns-2 c = rw (c .before .before .f .given .1) (c .head-at .ensures)
 
--- src/why.rt:19:1
 returns-3 : tie.Need-returns-3
 returns-3 c = rw (c .before .before .f2 .given .1) (c .triple-at .ensures)
 

@@ -1,24 +1,18 @@
-use native.Mathlib.Omega.{arith}
+-- `trace::why::returned` meets its contract. Assumes nothing.
 use borrow.Author.Needs.{needs}
 use Rattle.trace.specs.Search.{below}
 use Rattle.trace.proofs.Tried.{returns-other, returns-it}
 use Rattle.trace.proofs.why.returned.Statement.{statement}
 use Rattle.trace.proofs.why.returned.Tie as tie
-use Rattle.trace.proofs.why.returned.Reads as reads
-use Rattle.trace.proofs.why.returned.Lts as lts
-use Rattle.trace.proofs.why.if_lower.Reads as if-lower-reads
 
--- src/why.rt:77:9
 returns : tie.Need-returns
 returns c =
     let a = c .before .before .before .args in
     returns-other (below (a .size .symbols) (a .size .states) (a .heads .now) (a .triples .now) (a .k)) (a .q) (a .g) (a .r) (a .v) (a .x) (a .a) (a .y) (a .g1) (a .g2) (c .if1 .taken)
 
--- src/why.rt:79:5
 if-lower-requires : tie.Need-if-lower-requires
 if-lower-requires c κs = search needs
 
--- src/why.rt:73:1
 returns-2 : tie.Need-returns-2
 returns-2 c =
     let a = c .before .before .before .before .args in

@@ -1,77 +1,56 @@
-use native.Mathlib.Omega.{arith}
+-- `trace::why::tried` meets its contract. Assumes nothing.
 use borrow.Author.Needs.{needs}
 use Rattle.trace.specs.Search.{below}
 use mathlib.Core.Path.{refl}
 use Rattle.trace.proofs.Tried.{tried-stuck, tried-to}
 use Rattle.trace.proofs.why.tried.Statement.{statement}
 use Rattle.trace.proofs.why.tried.Tie as tie
-use Rattle.trace.proofs.why.tried.Reads as reads
-use Rattle.trace.proofs.why.tried.Lts as lts
-use Rattle.model.proofs.next_state.Reads as next-state-reads
-use Rattle.model.proofs.rule_at.Reads as rule-at-reads
-use Rattle.trace.proofs.why.source.Reads as source-reads
-use Rattle.trace.proofs.why.tried_head.Reads as tried-head-reads
-use Rattle.trace.proofs.why.tried_triple.Reads as tried-triple-reads
 
--- src/why.rt:143:67
 source-requires : tie.Need-source-requires
 source-requires c κs = search needs
 
--- src/why.rt:143:9
 next-state-requires : tie.Need-next-state-requires
 next-state-requires c κs = search needs
 
--- src/why.rt:145:24
 enum-told : tie.Need-enum-told
 enum-told c = search needs
 
--- src/why.rt:146:18
 enum-known-next : tie.Need-enum-known-next
 enum-known-next c = search needs
 
--- src/why.rt:147:17
 rule-at-requires : tie.Need-rule-at-requires
 rule-at-requires c κs = search needs
 
--- src/why.rt:149:34
 enum-told-2 : tie.Need-enum-told-2
 enum-told-2 c = search needs
 
--- src/why.rt:150:28
 enum-known-f : tie.Need-enum-known-f
 enum-known-f c = search needs
 
--- src/why.rt:150:37
 tried-head-requires : tie.Need-tried-head-requires
 tried-head-requires c κs = search needs
 
--- src/why.rt:151:30
 enum-known-f-2 : tie.Need-enum-known-f-2
 enum-known-f-2 c = search needs
 
--- src/why.rt:151:42
 tried-triple-requires : tie.Need-tried-triple-requires
 tried-triple-requires c κs = search needs
 
--- src/why.rt:140:1
 returns : tie.Need-returns
 returns c =
     let a = c .before .before .before .before .before .before .args in
     tried-stuck (a .rules .now) (a .moves .now) (a .shows .now) (below (a .size .symbols) (a .size .states) (a .heads .now) (a .triples .now) (a .k)) (a .f) (a .r) (a .v) (a .x) (c .before .before .before .source .ensures) (c .before .before .next-state .ensures) (c .enum-told .given .1)
 
--- src/why.rt:140:1
 returns-2 : tie.Need-returns-2
 returns-2 c =
     let a = c .before .before .before .before .before .before .before .before .before .before .args in
     tried-to (a .rules .now) (a .moves .now) (a .shows .now) (below (a .size .symbols) (a .size .states) (a .heads .now) (a .triples .now) (a .k)) (a .f) (a .r) (a .v) (a .x) (c .before .before .before .before .before .before .before .source .ensures) (c .before .before .before .before .before .before .next-state .ensures) (c .before .before .before .before .next .given .1) (c .before .before .rule-at .ensures) (c .enum-told2 .given .1) refl
 
--- src/why.rt:140:1
 returns-3 : tie.Need-returns-3
 returns-3 c =
     let a = c .before .before .before .before .before .before .before .before .before .before .before .before .args in
     tried-to (a .rules .now) (a .moves .now) (a .shows .now) (below (a .size .symbols) (a .size .states) (a .heads .now) (a .triples .now) (a .k)) (a .f) (a .r) (a .v) (a .x) (c .before .before .before .before .before .before .before .before .before .source .ensures) (c .before .before .before .before .before .before .before .before .next-state .ensures) (c .before .before .before .before .before .before .next .given .1) (c .before .before .before .before .rule-at .ensures) (c .before .before .f .given .1) (c .tried-head .ensures)
 
--- src/why.rt:140:1
 returns-4 : tie.Need-returns-4
 returns-4 c =
     let a = c .before .before .before .before .before .before .before .before .before .before .before .before .args in

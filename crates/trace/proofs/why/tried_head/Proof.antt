@@ -1,4 +1,4 @@
-use native.Mathlib.Omega.{arith}
+-- `trace::why::tried_head` meets its contract. Assumes nothing.
 use borrow.Author.Needs.{needs}
 use Rattle.trace.specs.Search.{below}
 use Rattle.product.specs.Facts as facts
@@ -8,63 +8,47 @@ use Rattle.trace.specs.Search.{stepOf}
 use Rattle.trace.proofs.Tried.{found-first, found-second}
 use Rattle.trace.proofs.why.tried_head.Statement.{statement}
 use Rattle.trace.proofs.why.tried_head.Tie as tie
-use Rattle.trace.proofs.why.tried_head.Reads as reads
-use Rattle.trace.proofs.why.tried_head.Lts as lts
-use Rattle.trace.proofs.why.entered.Reads as entered-reads
-use Rattle.trace.proofs.why.returned.Reads as returned-reads
 
--- src/why.rt:87:26
 enum-told : tie.Need-enum-told
 enum-told c = search needs
 
--- src/why.rt:88:22
 enum-known-rule : tie.Need-enum-known-rule
 enum-known-rule c = search needs
 
--- src/why.rt:88:32
 entered-requires : tie.Need-entered-requires
 entered-requires c κs = search needs
 
--- src/why.rt:89:20
 enum-known-rule-2 : tie.Need-enum-known-rule-2
 enum-known-rule-2 c = search needs
 
--- src/why.rt:90:17
 entered-requires-2 : tie.Need-entered-requires-2
 entered-requires-2 c κs = search needs
 
--- src/why.rt:92:27
 enum-known-w : tie.Need-enum-known-w
 enum-known-w c = search needs
 
--- src/why.rt:93:35
 enum-told-2 : tie.Need-enum-told-2
 enum-told-2 c = search needs
 
--- src/why.rt:93:35
 returned-requires : tie.Need-returned-requires
 returned-requires c κs = search needs
 
--- src/why.rt:83:1
 returns : tie.Need-returns
 returns c =
     let a = c .before .before .before .before .args in
     rw (c .enum-told .given .1)
 
--- src/why.rt:83:1
 returns-2 : tie.Need-returns-2
 returns-2 c =
     let a = c .before .before .before .before .before .before .args in
     rw (c .before .before .rule .given .1) (c .entered .ensures)
 
--- src/why.rt:83:1
 returns-3 : tie.Need-returns-3
 returns-3 c =
     let a = c .before .before .before .before .before .before .before .before .before .args in
     let (a′, (g1, (g2, _))) = c .before .before .before .before .before .rule2 .given .0 in
     rw (c .before .before .before .before .before .rule2 .given .1) (found-first (works (below (a .size .symbols) (a .size .states) (a .heads .now) (a .triples .now) (a .k)) (head (a .q) (a .g))) (enters (stepOf (a .r) (a .v)) (a .x) a′ (a .y) g1) (facts.returns (stepOf (a .r) (a .v)) (a .x) a′ (a .y) g1 g2 (a .q)) (c .before .before .before .entered2 .ensures) (c .before .w .given .1))
 
--- src/why.rt:83:1
 returns-4 : tie.Need-returns-4
 returns-4 c =
     let a = c .before .before .before .before .before .before .before .before .before .args in
