@@ -8,7 +8,7 @@ use native.Mathlib.Decide.{ℕ-discrete}
 use native.Mathlib.Numerals.{add-one}
 use native.Mathlib.Omega.{arith}
 use lib.Dec.{T}
-use lib.ListN.{length, drop}
+use lib.ListN.{length}
 use borrow.Author.Tests.{not-true, not-false}
 use Rattle.product.specs.Lists.{upTo}
 use Rattle.product.specs.Table.{absent, ranks, left}
@@ -27,7 +27,7 @@ use Rattle.rounds.specs.Round.{Arrays, arrays, tableOf, sizeOf, startOf, roundO
 use Rattle.rounds.proofs.InPlace.{Long, Became, became-same, became-long, became-then, became-round, became-start}
 use Rattle.decide.specs.declared.Decision.{Decision}
 use Rattle.decide.specs.declared.Decision.the-variants.{Violation, Safe, Spent}
-use Rattle.decide.specs.Decided.{meaning, within, headCount, tripleCount}
+use Rattle.decide.specs.Decided.{meaning, within}
 use Rattle.decide.specs.Look.{clean, quiet, Ready, Ran}
 use Rattle.decide.proofs.Looked.{clean-is, quiet-is}
 
