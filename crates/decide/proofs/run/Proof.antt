@@ -1,4 +1,5 @@
--- `decide::run` meets its contract. Assumes nothing.
+-- `decide::run` meets its contract. The invariant: after round n the arrays hold the ranks up to n, and the rounds before it went on, so that n is at
+-- most 2304, the number of all facts. Assumes nothing.
 use mathlib.Core.Path.{_≡_, refl, _∙_}
 use Prim.Native.Nat.{_≤_, _-_}
 use native.Mathlib.Omega.{arith}
