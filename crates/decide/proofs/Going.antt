@@ -8,7 +8,7 @@ use native.Mathlib.Decide.{ℕ-discrete}
 use native.Mathlib.Numerals.{add-one}
 use native.Mathlib.Omega.{arith}
 use lib.Dec.{T}
-use lib.ListN.{length, drop}
+use lib.ListN.{length}
 use borrow.Author.Tests.{not-true, not-false}
 use Rattle.product.specs.Lists.{upTo}
 use Rattle.product.specs.Table.{absent, ranks, left}
@@ -23,11 +23,11 @@ use Rattle.table.proofs.LaidOut.{heads-laid, triples-laid}
 use Rattle.model.specs.declared.Model.{Model}
 use Rattle.model.specs.Model.{productOf}
 use Rattle.model.proofs.Valid.{product-in, valid-sizes}
-use Rattle.rounds.specs.Round.{Arrays, arrays, tableOf, sizeOf, startOf, roundOf}
-use Rattle.rounds.proofs.InPlace.{Long, Became, became-same, became-long, became-then, became-round, became-start}
+use Rattle.rounds.specs.Round.{Arrays, arrays, tableOf, Long, sizeOf, startOf, roundOf}
+use Rattle.rounds.proofs.InPlace.{Became, became-same, became-long, became-then, became-round, became-start}
 use Rattle.decide.specs.declared.Decision.{Decision}
 use Rattle.decide.specs.declared.Decision.the-variants.{Violation, Safe, Spent}
-use Rattle.decide.specs.Decided.{meaning, within, headCount, tripleCount}
+use Rattle.decide.specs.Decided.{meaning, within}
 use Rattle.decide.specs.Look.{clean, quiet, Ready, Ran}
 use Rattle.decide.proofs.Looked.{clean-is, quiet-is}
 
@@ -42,11 +42,8 @@ pub record Going (m : Model) (budget : ℕ) (before : Arrays) (n : ℕ) (now : A
 
 -- hs and ts are the arrays as they came, hs₁ and ts₁ after round 0
 module _ {m : Model} {hs ts hs₁ ts₁ : List ℕ} (r : Ready m hs ts) (e : arrays hs₁ ts₁ ≡ startOf m (arrays hs ts)) where
-  abbrev came : Long (sizeOf m) (arrays hs ts)
-  came = record { heads = r .heads; triples = r .triples }
-
   zeroth : Became (sizeOf m) (arrays hs ts) (ranks (productOf m) 0) (arrays hs₁ ts₁)
-  zeroth = subst⁻¹ (Became (sizeOf m) (arrays hs ts) (ranks (productOf m) 0)) e (became-start m (r .valid-model) (arrays hs ts) came)
+  zeroth = subst⁻¹ (Became (sizeOf m) (arrays hs ts) (ranks (productOf m) 0)) e (became-start m (r .valid-model) (arrays hs ts) (r .long))
 
   pub from-start : (budget : ℕ) → Going m budget (arrays hs₁ ts₁) 0 (arrays hs₁ ts₁)
   from-start budget = record { table = became-same (sizeOf m) (arrays hs₁ ts₁) (ranks (productOf m) 0) (zeroth .is); goes = λ k l. absurd (omega arith); in-budget = omega arith }
@@ -64,7 +61,7 @@ module _ {m : Model} {hs ts hs₁ ts₁ : List ℕ} (r : Ready m hs ts) (e : arr
     whole = became-then (sizeOf m) zeroth (g .table)
 
     long : Long (sizeOf m) (arrays hs′ ts′)
-    long = became-long (sizeOf m) came whole
+    long = became-long (sizeOf m) (r .long) whole
 
     small : n < absent
     small = omega (arith, few n (g .goes))

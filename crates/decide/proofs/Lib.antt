@@ -3,3 +3,5 @@ pub mod Looked
 pub mod Going
 pub mod Tested
 pub mod Coincide
+pub mod Laid
+pub mod Answered

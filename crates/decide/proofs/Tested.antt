@@ -43,7 +43,7 @@ module _ (m : Model) (budget : ℕ) (hs ts : List ℕ) {b : Bool} (tested : b �
 
         module _ (triples-there : k ≤ length ts) where
           pub ready : Ready m hs ts
-          ready = record { valid-model = subst T (sym is-valid) tt; heads = omega arith; triples = omega arith }
+          ready = record { valid-model = subst T (sym is-valid) tt; long = record { heads = omega arith; triples = omega arith } }
 
           pub done : {r : Decision} {hs′ ts′ : List ℕ} → Ran m budget hs ts r hs′ ts′ → Decided m budget hs ts r hs′ ts′
           unfolding decision headsLeft triplesLeft

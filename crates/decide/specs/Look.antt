@@ -2,9 +2,9 @@
 use mathlib.Core.Bool.{Bool, false, not, _&&_, _||_}
 use mathlib.Core.List.{List, _++_}
 use mathlib.Core.Path.{_≡_}
-use Prim.Native.Nat.{ℕ, _*_, _≤_}
+use Prim.Native.Nat.{ℕ, _*_}
 use lib.Dec.{T, eqb}
-use lib.ListN.{length, getD, drop}
+use lib.ListN.{getD, drop}
 use Rattle.product.specs.Lists.{upTo, all}
 use Rattle.product.specs.Table.{absent, left}
 use Rattle.product.specs.Verdict as product
@@ -13,6 +13,7 @@ use Rattle.table.specs.Cells.{headIn, tripleIn, headsOf, triplesOf}
 use Rattle.model.specs.declared.Model.{Model}
 use Rattle.model.specs.Model.{productOf}
 use Rattle.model.specs.Valid.{valid}
+use Rattle.rounds.specs.Round.{arrays, sizeOf, Long}
 use Rattle.decide.specs.declared.Decision.{Decision}
 use Rattle.decide.specs.Decided.{meaning, within, headCount, tripleCount}
 
@@ -45,16 +46,10 @@ without xs n k = all (λ i. not (eqb (getD xs i 0) k)) (upTo n)
 abbrev pub quiet : Size → (hs ts : List ℕ) → (k : ℕ) → Bool
 quiet z hs ts k = without hs (z .states * z .symbols) k && without ts (z .states * z .symbols * z .states) k
 
--- the arrays are long enough
-pub record Fits (z : Size) (hs ts : List ℕ) : Type 0 where
-  pub heads : z .states * z .symbols ≤ length hs
-  pub triples : z .states * z .symbols * z .states ≤ length ts
-
 -- the model is valid, and the arrays are long enough for its table
 pub record Ready (m : Model) (hs ts : List ℕ) : Type 0 where
   pub valid-model : T (valid m)
-  pub heads : headCount m ≤ length hs
-  pub triples : tripleCount m ≤ length ts
+  pub long : Long (sizeOf m) (arrays hs ts)
 
 -- what the rounds then answer and leave
 pub record Ran (m : Model) (budget : ℕ) (hs ts : List ℕ) (r : Decision) (hs′ ts′ : List ℕ) : Type 0 where

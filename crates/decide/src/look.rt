@@ -3,7 +3,8 @@ ghost use mathlib.Core.Bool.{false};
 ghost use mathlib.Core.Path.{_≡_};
 ghost use Prim.Native.Nat.{_≤_};
 ghost use lib.ListN.{length, getD};
-ghost use Rattle.decide.specs.Look.{rowFree, stateClean, headsClean, endClean, endsClean, clean, without, quiet, Fits};
+ghost use Rattle.decide.specs.Look.{rowFree, stateClean, headsClean, endClean, endsClean, clean, without, quiet};
+ghost use Rattle.rounds.specs.Round.{arrays, Long};
 use table::Size;
 
 // The state is final.
@@ -122,7 +123,7 @@ fn without(cells: &[u16], n: usize, k: u16) -> bool
 
 // Round k has added nothing.
 pub fn quiet<'a>(heads: &'a [u16], triples: &'a [u16], size: Size, k: u16) -> bool
-    requires { ⌜ Fits size (now heads) (now triples) ⌝ }
+    requires { ⌜ Long size (arrays (now heads) (now triples)) ⌝ }
     ensures { λ b. ⌜ b ≡ quiet size (now (heads .entry)) (now (triples .entry)) k ⌝ }
 {
     if !without(heads, rounds::head_count(size), k) {

@@ -22,13 +22,8 @@ use Rattle.model.specs.Model.{productOf}
 use Rattle.model.specs.Valid.{valid}
 use Rattle.model.proofs.Valid.{product-in}
 use Rattle.model.proofs.Bounds.{start-state-in, start-symbol-in}
-use Rattle.rounds.specs.Round.{Arrays, tableOf, put, lower, taken, allTaken, sizeOf, roundOf, startOf}
+use Rattle.rounds.specs.Round.{Arrays, tableOf, Long, put, lower, taken, allTaken, sizeOf, roundOf, startOf}
 use Rattle.rounds.proofs.Applied.{apply, applyAll, ranks-next}
-
--- the arrays are long enough for the table
-pub record Long (z : Size) (c : Arrays) : Type 0 where
-  pub heads : z .states * z .symbols ≤ length (c .0)
-  pub triples : z .states * z .symbols * z .states ≤ length (c .1)
 
 -- the arrays became d: they hold the table t, are as long as before, and the same past the table
 pub record Became (z : Size) (c : Arrays) (t : Table) (d : Arrays) : Type 0 where

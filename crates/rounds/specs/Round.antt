@@ -2,8 +2,9 @@
 use mathlib.Core.Bool.{Bool, cond}
 use mathlib.Core.List.{List, [], _∷_}
 use mathlib.Core.Option.{Option, none, some}
-use Prim.Native.Nat.{ℕ, _*_}
+use Prim.Native.Nat.{ℕ, _*_, _≤_}
 use lib.Dec.{eqb, ltb}
+use lib.ListN.{length}
 use Rattle.product.specs.Lists.{upTo, over, all}
 use Rattle.product.specs.Product.{Rule, Step}
 use Rattle.product.specs.Facts.{Fact, head, triple, first, Way, needs, consequences, ways}
@@ -22,6 +23,11 @@ arrays hs ts = (hs, ts)
 
 abbrev pub tableOf : Size → Arrays → Table
 tableOf z c = view (z .symbols) (z .states) (c .0) (c .1)
+
+-- the arrays are long enough for the table
+pub record Long (z : Size) (c : Arrays) : Type 0 where
+  pub heads : z .states * z .symbols ≤ length (c .0)
+  pub triples : z .states * z .symbols * z .states ≤ length (c .1)
 
 -- a fact with another rank
 abbrev pub put : Size → Fact → ℕ → Arrays → Arrays

@@ -1,7 +1,6 @@
 // One round over the two lent arrays, in which the facts held before it, those of lower rank, give new ones.
 ghost use mathlib.Core.Path.{_≡_};
-ghost use mathlib.Core.List.{List};
-ghost use Prim.Native.Nat.{ℕ, _*_};
+ghost use Prim.Native.Nat.{_*_};
 ghost use Rattle.rounds.specs.Round.{arrays, allTaken, startOf, roundOf, stepWays, pairWays, ruleWays};
 use model::Model;
 use model::Next;

@@ -1,4 +1,4 @@
--- `rounds::round` meets its contract. Assumes nothing.
+-- `rounds::round` meets its contract. The invariant of this loop and of those below it: the ways before the present turn are taken. Assumes nothing.
 use mathlib.Core.Path.{_≡_, refl, _∙_}
 use Prim.Native.Nat.{_≤_, _-_}
 use native.Mathlib.Omega.{arith}

@@ -1,4 +1,4 @@
--- `rounds::ways::consequences` meets its contract. Assumes nothing.
+-- `rounds::ways::consequences` meets its contract: the ways are taken in the order of the definition. Assumes nothing.
 use borrow.Author.Needs.{needs}
 use Rattle.rounds.proofs.Steps.{by-exit, by-direct, by-call}
 use Rattle.rounds.specs.Round.{arrays}
