@@ -50,10 +50,97 @@ def reading(data):
     ])
 
 
+SHORT = {1: "heads", 2: "triples", 3: "stack"}  # which array of the calls has no cells at all
+
+
+def calls():
+    """Models with a budget, a room and an array that is too short: the sharp cases, and every way that a call can refuse."""
+    a, b = vector("check-model-a"), vector("check-model-b")
+    sharp = [path.read_bytes() for path in sorted((TOP / "tests" / "vectors").glob("check-*.pd"))
+             if "refused" not in path.name and path.stat().st_size < 400]
+    last = generate.last_sharp_case().text()
+    yield from ((data, 99999, 4096, 0) for data in sharp)
+    yield from ((data, budget, 8, 0) for data in (a, b) for budget in range(6))
+    yield from ((a, 24, room, 0) for room in (0, 1, 2, 3))
+    yield from ((data, 24, 8, short) for data in (a, b) for short in SHORT)
+    yield (b"", 24, 8, 0)  # no model is read: the empty record is refusal 6
+    yield from ((last, 99999, room, 0) for room in (4096, 8192, 8193, 8194))
+
+
+def vector(name):
+    return (TOP / "tests" / "vectors" / f"{name}.pd").read_bytes()
+
+
+def called(data, budget, room, short):
+    """Every answer of the calls on one model, and the lent cells afterwards."""
+    model = second.read_model(data)[2]
+    heads, triples = [7] * (0 if short == 1 else 260), [7] * (0 if short == 2 else 2060)
+    out, steps, stack = [], [9] * room, [5] * (0 if short == 3 else 8300)
+    line = lambda word, a, b: out.append(second.record(word, a, b))
+    refusal = 6 if model is None else 7 if short in (1, 2) else 0
+
+    def check():
+        if refusal:
+            return line(b"check refused", refusal, 0)
+        G, Q = model.symbols, model.states
+        held = {(q, g): heads[q * G + g] for q in range(Q) for g in range(G) if heads[q * G + g] != 65535}
+        erased = {(q, g, e): triples[(q * G + g) * Q + e] for q in range(Q) for g in range(G) for e in range(Q)
+                  if triples[(q * G + g) * Q + e] != 65535}
+        answer = second.check_table(model, held, erased)
+        if answer == second.ACCEPTED:
+            return line(b"accepted", 0, 0)
+        reason, rule, move = answer
+        return line(b"not closed", rule, move) if reason == 3 else line(b"check refused", 11, reason)
+
+    check()
+    if refusal:
+        line(b"refused", refusal, 0)
+        cells = (0, 0) if model is None else (model.symbols * model.states, model.symbols * model.states ** 2)
+    else:
+        G, Q = model.symbols, model.states
+        cells = (G * Q, G * Q * Q)
+        kind, rounds, held, erased = second.decide(model, budget)
+        for q in range(Q):
+            for g in range(G):
+                heads[q * G + g] = held.get((q, g), 65535)
+                for e in range(Q):
+                    triples[(q * G + g) * Q + e] = erased.get((q, g, e), 65535)
+        line(*((b"refused", 8, budget) if kind == "budget" else (kind.encode(), rounds, 0)))
+    out.append(second.record(b"heads", *heads[:cells[0]]))
+    out.append(second.record(b"triples", *triples[:cells[1]]))
+    line(b"sevens", heads.count(7), triples.count(7))
+    check()
+
+    stored = 0
+    if refusal:
+        line(b"trace refused", refusal, 0)
+    else:
+        kind, rounds, _, _, found = second.trace(model, budget, room)
+        stored = len(found)
+        steps[:stored] = found
+        said = {"budget": (b"trace refused", 8, budget), "safe": (b"trace refused", 9, rounds), "cut": (b"trace cut", rounds, room),
+                "violation": (b"trace", rounds, stored)}
+        line(*said[kind])
+    out.append(second.record(b"steps", *steps[:12]))
+    if model is None:
+        line(b"replay refused", 6, 0)
+    elif len(stack) < stored + 1:
+        line(b"replay refused", 7, 0)
+    else:
+        answer = second.replay(model, steps[:stored])
+        line(*((b"replayed", 0, 0) if answer == second.ACCEPTED else (b"replay refused", 12, answer)))
+        stack[:stored + 1] = [0] * (stored + 1)
+    line(b"cleared", stack.count(0), 0)
+    return b"".join(out)
+
+
 def files():
     parts = texts()
     yield "crates/readings/stdin", container(parts)
     yield "crates/readings/stdout", b"".join(reading(part) for part in parts)
+    made = list(calls())
+    yield "crates/calls/stdin", b"".join(b"%d\t%d\t%d\t%d\n" % (len(data), *rest) + data for data, *rest in made)
+    yield "crates/calls/stdout", b"".join(called(*one) for one in made)
 
 
 def main():

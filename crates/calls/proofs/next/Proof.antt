@@ -1,0 +1,96 @@
+-- `calls::next` meets its contract. Assumes nothing.
+use mathlib.Core.Path.{sym}
+use lib.Seq.{length-take-le}
+use native.Mathlib.Omega.{arith}
+use borrow.Author.Needs.{needs}
+use Rattle.calls.proofs.next.Statement.{statement}
+use Rattle.calls.proofs.next.Tie as tie
+
+find-requires : tie.Need-find-requires
+find-requires c κs = search needs
+
+returns : tie.Need-returns
+returns c = search needs
+
+slice-aggregate-read-numbers : tie.Need-slice-aggregate-read-numbers
+slice-aggregate-read-numbers c = sym (length-take-le _ _ (omega arith))
+
+read-numbers-requires : tie.Need-read-numbers-requires
+read-numbers-requires c κs = search needs
+
+returns-2 : tie.Need-returns-2
+returns-2 c = search needs
+
+array-read-whole : tie.Need-array-read-whole
+array-read-whole c = search needs
+
+whole-requires : tie.Need-whole-requires
+whole-requires c κs = search needs
+
+add-b : tie.Need-add-b
+add-b c = search needs
+
+sub-rest : tie.Need-sub-rest
+sub-rest c = search needs
+
+part-rest-start : tie.Need-part-rest-start
+part-rest-start c = search needs
+
+part-rest-end : tie.Need-part-rest-end
+part-rest-end c = search needs
+
+returns-3 : tie.Need-returns-3
+returns-3 c = search needs
+
+slice-aggregate-read-model : tie.Need-slice-aggregate-read-model
+slice-aggregate-read-model c = sym (length-take-le _ _ (omega arith))
+
+read-model-requires : tie.Need-read-model-requires
+read-model-requires c κs = search needs
+
+array-read-budget : tie.Need-array-read-budget
+array-read-budget c = search needs
+
+array-read-whole-2 : tie.Need-array-read-whole-2
+array-read-whole-2 c = search needs
+
+whole-requires-2 : tie.Need-whole-requires-2
+whole-requires-2 c κs = search needs
+
+array-read-with-room : tie.Need-array-read-with-room
+array-read-with-room c = search needs
+
+with-room-requires : tie.Need-with-room-requires
+with-room-requires c κs = search needs
+
+add-result : tie.Need-add-result
+add-result c = search needs
+
+returns-4 : tie.Need-returns-4
+returns-4 c = search needs
+
+pub next-spec : {M : Type 1} → statement M
+next-spec =
+    tie.close
+    (tie.spec
+    find-requires
+    returns
+    slice-aggregate-read-numbers
+    read-numbers-requires
+    returns-2
+    array-read-whole
+    whole-requires
+    add-b
+    sub-rest
+    part-rest-start
+    part-rest-end
+    returns-3
+    slice-aggregate-read-model
+    read-model-requires
+    array-read-budget
+    array-read-whole-2
+    whole-requires-2
+    array-read-with-room
+    with-room-requires
+    add-result
+    returns-4)

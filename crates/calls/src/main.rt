@@ -1,0 +1,284 @@
+// Calls the decision, the table check, the trace and the replay on many models, and writes every answer and the lent cells afterwards,
+// also past the table. Standard input is a row of models, each behind a line with its length, the budget, the room and which array is too
+// short (1 heads, 2 triples, 3 the replay's stack); tests/expected.py makes it, and says by the second program what is to be written.
+use decide::Decision;
+use libc::STDIN_FILENO;
+use libc::STDOUT_FILENO;
+use model::Model;
+use recheck::Recheck;
+use replay::Replayed;
+use table::Size;
+use trace::Traced;
+
+fn word(s: &[u8]) {
+    io::write_all(STDOUT_FILENO, s);
+}
+
+fn field(n: u64) {
+    word(b"\t");
+    io::print_decimal(STDOUT_FILENO, n);
+}
+
+fn line(s: &[u8], a: u64, b: u64) {
+    word(s);
+    field(a);
+    field(b);
+    word(b"\n");
+}
+
+fn wide(n: u16) -> u64 {
+    n as u64
+}
+
+fn whole(n: u32) -> usize {
+    n as usize
+}
+
+// The first n cells, or all where there are fewer.
+fn cells(name: &[u8], s: &[u16], n: usize) {
+    word(name);
+    let mut i = 0;
+    while i < n {
+        if s.len() <= i {
+            word(b"\n");
+            return;
+        }
+        field(wide(s[i]));
+        i += 1;
+    }
+    word(b"\n");
+}
+
+// How many cells are 0.
+fn zeros(s: &[u8]) -> u64 {
+    let mut n: u64 = 0;
+    let mut i = 0;
+    while i < s.len() {
+        if s[i] == 0 {
+            n = std::num::wrapping_add_u64(n, 1);
+        }
+        i += 1;
+    }
+    n
+}
+
+fn show_check(r: Recheck) {
+    match r {
+        Recheck::Accepted => line(b"accepted", 0, 0),
+        Recheck::Invalid => line(b"check refused", 6, 0),
+        Recheck::Short => line(b"check refused", 7, 0),
+        Recheck::NoStart => line(b"check refused", 11, 1),
+        Recheck::Violating => line(b"check refused", 11, 2),
+        Recheck::Open(r, v) => line(b"not closed", r as u64, v as u64),
+    }
+}
+
+fn show_decision(d: Decision) {
+    match d {
+        Decision::Violation(n) => line(b"violation", n as u64, 0),
+        Decision::Safe(n) => line(b"safe", n as u64, 0),
+        Decision::Invalid => line(b"refused", 6, 0),
+        Decision::Short => line(b"refused", 7, 0),
+        Decision::Spent(b) => line(b"refused", 8, b as u64),
+    }
+}
+
+// The answer, and how many steps were stored.
+fn show_trace(t: Traced) -> usize {
+    match t {
+        Traced::Found(n, k) => {
+            line(b"trace", n as u64, k as u64);
+            k
+        }
+        Traced::Invalid => {
+            line(b"trace refused", 6, 0);
+            0
+        }
+        Traced::Short => {
+            line(b"trace refused", 7, 0);
+            0
+        }
+        Traced::Spent(b) => {
+            line(b"trace refused", 8, b as u64);
+            0
+        }
+        Traced::Safe(n) => {
+            line(b"trace refused", 9, n as u64);
+            0
+        }
+        Traced::Cut(n, room) => {
+            line(b"trace cut", n as u64, room as u64);
+            room
+        }
+    }
+}
+
+fn show_replay(r: Replayed) {
+    match r {
+        Replayed::Accepted => line(b"replayed", 0, 0),
+        Replayed::Invalid => line(b"replay refused", 6, 0),
+        Replayed::Short => line(b"replay refused", 7, 0),
+        Replayed::Bad(k) => line(b"replay refused", 12, k as u64),
+    }
+}
+
+fn check<'a>(m: Model, heads: &'a [u16], triples: &'a [u16]) {
+    let r = recheck::check_table(m, heads, triples);
+    show_check(r);
+}
+
+fn decided(m: Model, budget: u32, heads: &mut [u16], triples: &mut [u16]) {
+    let d = decide::decide(m, budget, heads, triples);
+    show_decision(d);
+}
+
+fn traced(
+    m: Model,
+    budget: u32,
+    heads: &mut [u16],
+    triples: &mut [u16],
+    room: &mut [u16],
+) -> usize {
+    let t = trace::trace(m, budget, heads, triples, room);
+    show_trace(t)
+}
+
+fn replayed(m: Model, steps: &[u16], stack: &mut [u8]) {
+    let r = replay::replay_steps(m, steps, stack);
+    show_replay(r);
+    line(b"cleared", zeros(stack), 0);
+}
+
+// How many cells still are 7.
+fn sevens(s: &[u16]) -> u64 {
+    let mut n: u64 = 0;
+    let mut i = 0;
+    while i < s.len() {
+        if s[i] == 7 {
+            n = std::num::wrapping_add_u64(n, 1);
+        }
+        i += 1;
+    }
+    n
+}
+
+// The decision between two checks, in arrays full of other numbers.
+fn call_all(m: Model, budget: u32, heads: &mut [u16], triples: &mut [u16]) {
+    let size = Size {
+        symbols: m.symbols,
+        states: m.states,
+    };
+    check(m, heads, triples);
+    decided(m, budget, heads, triples);
+    cells(b"heads", heads, rounds::head_count(size));
+    cells(b"triples", triples, rounds::triple_count(size));
+    line(b"sevens", sevens(heads), sevens(triples));
+    check(m, heads, triples);
+}
+
+fn show_steps(m: Model, steps: &[u16], k: usize, stack: &mut [u8]) {
+    cells(b"steps", steps, 12);
+    if k <= steps.len() {
+        replayed(m, &steps[..k], stack);
+    }
+}
+
+fn call_trace(
+    m: Model,
+    budget: u32,
+    heads: &mut [u16],
+    triples: &mut [u16],
+    room: &mut [u16],
+    stack: &mut [u8],
+) {
+    let k = traced(m, budget, heads, triples, room);
+    show_steps(m, room, k, stack);
+}
+
+fn in_room(
+    m: Model,
+    budget: u32,
+    heads: &mut [u16],
+    triples: &mut [u16],
+    steps: &mut [u16],
+    room: usize,
+    stack: &mut [u8],
+) {
+    call_all(m, budget, heads, triples);
+    if steps.len() < room {
+        return;
+    }
+    call_trace(m, budget, heads, triples, &mut steps[..room], stack);
+}
+
+fn with_heads(m: Model, budget: u32, heads: &mut [u16], room: usize, short: u32) {
+    let mut triples = [7u16; 2060];
+    let mut steps = [9u16; 8200];
+    let mut stack = [5u8; 8300];
+    if short == 2 {
+        let mut few = [7u16; 0];
+        in_room(m, budget, heads, &mut few, &mut steps, room, &mut stack);
+        return;
+    }
+    if short == 3 {
+        let mut low = [5u8; 0];
+        in_room(m, budget, heads, &mut triples, &mut steps, room, &mut low);
+        return;
+    }
+    in_room(m, budget, heads, &mut triples, &mut steps, room, &mut stack);
+}
+
+fn with_room(m: Model, budget: u32, room: usize, short: u32) {
+    if short == 1 {
+        let mut few = [7u16; 0];
+        with_heads(m, budget, &mut few, room, short);
+        return;
+    }
+    let mut heads = [7u16; 260];
+    with_heads(m, budget, &mut heads, room, short);
+}
+
+// The place after the model that is announced at the front of s, or 0 where there is none.
+fn next(s: &[u8]) -> usize {
+    let e = text::find(s, b'\n');
+    if s.len() <= e {
+        return 0;
+    }
+    let numbers = text::read_numbers(&s[..e]);
+    if numbers.count != 4 {
+        return 0;
+    }
+    let given = numbers.at;
+    let k = whole(given[0]);
+    let b = e + 1;
+    let rest = &s[b..];
+    if rest.len() < k {
+        return 0;
+    }
+    let read = reader::read_model(&rest[..k]);
+    let m = read.model;
+    let budget = given[1];
+    let room = whole(given[2]);
+    with_room(m, budget, room, given[3]);
+    b + k
+}
+
+fn call_each(all: &[u8]) {
+    let mut at = 0;
+    while at < all.len() {
+        let more = next(&all[at..]);
+        if more == 0 {
+            return;
+        }
+        if all.len() - at < more {
+            return;
+        }
+        at += more;
+    }
+}
+
+fn main() {
+    let mut space = [0u8; 65536];
+    let n = io::read_full(STDIN_FILENO, &mut space);
+    call_each(&space[..n]);
+}
