@@ -1,5 +1,5 @@
 -- What the public call answers and leaves, case by case. Assumes nothing.
-use mathlib.Core.Path.{_≡_, refl, sym, ap, _∙_}
+use mathlib.Core.Path.{_≡_, sym, ap, _∙_}
 use mathlib.Core.Bool.{true, false}
 use mathlib.Core.List.{List}
 use Prim.Native.Nat.{ℕ, _<_, _≤_}
@@ -9,7 +9,7 @@ use borrow.Author.Tests.{lt-ltb, le-ltb, eq-eqb, ne-eqb}
 use Rattle.text.specs.Split.{pick}
 use Rattle.model.specs.declared.Model.{Model}
 use Rattle.model.specs.Valid.{valid}
-use Rattle.listing.specs.Tested.{headsOf, triplesOf, tested}
+use Rattle.listing.specs.Tested.{headsOf, triplesOf}
 use Rattle.listing.specs.Reading.{longest, linesOf, refusedAs, answerOf, filled, headsLeft, triplesLeft, Reads}
 use Rattle.listing.specs.declared.Ended.{Ended}
 use Rattle.listing.specs.declared.ListingRead.{ListingRead}

@@ -1,14 +1,12 @@
 -- How the reading of lines goes on, by the place of the next line feed; and the copy of the collected cells. Assumes nothing.
 use mathlib.Core.Path.{_≡_, refl, sym, ap, _∙_}
-use mathlib.Core.List.{List, [], _∷_, _++_}
-use Prim.Native.Nat.{ℕ, suc, _+_, _-_, _<_, _≤_}
+use mathlib.Core.List.{List, [], _∷_}
+use Prim.Native.Nat.{ℕ, _+_, _<_, _≤_}
 use native.Mathlib.Numerals.{add-one}
 use native.Mathlib.Omega.{arith}
-use lib.ListN.{length, getD, take, drop, set, length-drop, length-take, length-append, length-set}
-use lib.Seq.{drop-cons, take-suc, set-at, append-snoc, length-take-le}
+use lib.ListN.{length, getD, take, set}
 use borrow.Author.Tests.{eq-eqb, ne-eqb, lt-ltb, le-ltb}
-use Rattle.text.specs.Split.{first, later, split}
-use Rattle.text.proofs.Lists.{tail-part}
+use Rattle.text.specs.Split.{first, split}
 use Rattle.text.proofs.Split.{after, after-shorter, first-piece, later-after, no-later, whole-piece}
 use Rattle.line.specs.Line.{lineOf}
 use Rattle.line.specs.declared.Line.{Line}
@@ -103,10 +101,10 @@ first-turn z {text} {s} {e} q f = record {
 }
 
 -- the copy, one cell more
-pub fill-more : (xs ys : List ℕ) (i : ℕ) → i < length xs → i < length ys → set (filled i xs ys) i (getD xs i 0) ≡ filled (i + 1) xs ys
-fill-more xs ys i h k =
-    ap (λ l. set (take i xs ++ l) i (getD xs i 0)) (drop-cons ys i 0 k)
-    ∙ set-at (take i xs) (getD ys i 0) (drop (suc i) ys) (getD xs i 0) i (length-take-le i xs (omega arith))
-    ∙ sym (append-snoc (take i xs) (getD xs i 0) (drop (suc i) ys))
-    ∙ ap (λ l. l ++ drop (suc i) ys) (sym (take-suc xs i 0 h))
-    ∙ rw add-one
+pub fill-none : (xs ys : List ℕ) → ys ≡ filled 0 xs ys
+unfolding filled
+fill-none xs ys = refl
+
+pub fill-more : (xs ys zs : List ℕ) (i : ℕ) {v : ℕ} → v ≡ getD xs i 0 → zs ≡ filled i xs ys → set zs i v ≡ filled (i + 1) xs ys
+unfolding filled
+fill-more xs ys zs i e k = ap (set zs i) e ∙ ap (λ l. set l i (getD xs i 0)) k ∙ rw add-one

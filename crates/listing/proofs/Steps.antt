@@ -1,18 +1,17 @@
 -- The steps of a reading, case by case. Assumes nothing.
-use mathlib.Core.Path.{_≡_, refl, sym, ap, _∙_}
-use mathlib.Core.Bool.{Bool, true, false, not, _&&_}
+use mathlib.Core.Path.{_≡_, refl, ap, _∙_}
+use mathlib.Core.Bool.{Bool, true, false}
 use Prim.Native.Nat.{ℕ, _+_, _<_, _≤_}
 use native.Mathlib.Omega.{arith}
 use lib.Dec.{eqb, ltb}
 use lib.ListN.{getD}
 use mathlib.Core.List.{List}
-use borrow.Author.Tests.{lt-ltb, le-ltb, eq-eqb, ne-eqb, eqb-true, eqb-false, ltb-false}
+use borrow.Author.Tests.{lt-ltb, le-ltb, eq-eqb, ne-eqb, ltb-false}
 use Rattle.text.specs.Split.{pick}
 use Rattle.product.specs.Table.{absent}
 use Rattle.table.specs.declared.Size.{Size}
 use Rattle.table.specs.Cells.{headIn, tripleIn, putHead, putTriple}
 use Rattle.line.specs.declared.Line.{Line}
-use Rattle.model.proofs.Counted.{passed, failed}
 use Rattle.listing.specs.declared.State.{State}
 use Rattle.listing.specs.declared.Step.{Step}
 use Rattle.listing.specs.Lines.{largest, refuse, goes, withHeader, withHead, withTriple, headsBy, triplesBy, safeStep, faultOf, headInside, tripleInside, unless, headStep, tripleStep, stepBy, listed, stepOf}

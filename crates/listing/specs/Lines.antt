@@ -23,8 +23,14 @@ largest = 65534
 -- before the first line
 unfoldable pub startState : State
 startState = record {
-  begun = 0; rounds = 0; headcount = 0; triplecount = 0; heads = 0; triples = 0;
-  headcells = replicate 256 absent; triplecells = replicate 2048 absent;
+  begun = 0;
+  rounds = 0;
+  headcount = 0;
+  triplecount = 0;
+  heads = 0;
+  triples = 0;
+  headcells = replicate 256 absent;
+  triplecells = replicate 2048 absent;
 }
 
 -- a line that is refused changes nothing
@@ -37,20 +43,38 @@ goes s = record { refusal = 0; state = s }
 -- the state with its header; with one head or one triple more
 abbrev pub withHeader : State → (rounds heads triples : ℕ) → State
 withHeader s a b c = record {
-  begun = 1; rounds = a; headcount = b; triplecount = c; heads = s .heads; triples = s .triples;
-  headcells = s .headcells; triplecells = s .triplecells;
+  begun = 1;
+  rounds = a;
+  headcount = b;
+  triplecount = c;
+  heads = s .heads;
+  triples = s .triples;
+  headcells = s .headcells;
+  triplecells = s .triplecells;
 }
 
 abbrev pub headsBy : State → (cells : List ℕ) → State
 headsBy s cells = record {
-  begun = s .begun; rounds = s .rounds; headcount = s .headcount; triplecount = s .triplecount; heads = s .heads + 1; triples = s .triples;
-  headcells = cells; triplecells = s .triplecells;
+  begun = s .begun;
+  rounds = s .rounds;
+  headcount = s .headcount;
+  triplecount = s .triplecount;
+  heads = s .heads + 1;
+  triples = s .triples;
+  headcells = cells;
+  triplecells = s .triplecells;
 }
 
 abbrev pub triplesBy : State → (cells : List ℕ) → State
 triplesBy s cells = record {
-  begun = s .begun; rounds = s .rounds; headcount = s .headcount; triplecount = s .triplecount; heads = s .heads; triples = s .triples + 1;
-  headcells = s .headcells; triplecells = cells;
+  begun = s .begun;
+  rounds = s .rounds;
+  headcount = s .headcount;
+  triplecount = s .triplecount;
+  heads = s .heads;
+  triples = s .triples + 1;
+  headcells = s .headcells;
+  triplecells = cells;
 }
 
 abbrev pub withHead : Size → State → (q g rank : ℕ) → State

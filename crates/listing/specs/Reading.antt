@@ -1,9 +1,9 @@
 -- What reading a listing answers, and what it leaves in the two lent arrays. Assumes nothing.
-use mathlib.Core.List.{List, _++_}
+use mathlib.Core.List.{List}
 use mathlib.Core.Path.{_≡_}
-use Prim.Native.Nat.{ℕ}
+use Prim.Native.Nat.{ℕ, zero, suc}
 use lib.Dec.{eqb, ltb}
-use lib.ListN.{length, take, drop}
+use lib.ListN.{length, getD, set}
 use Rattle.text.specs.Split.{pick}
 use Rattle.table.specs.declared.Size.{Size}
 use Rattle.model.specs.declared.Model.{Model}
@@ -51,8 +51,9 @@ unfoldable pub answerOf : Ended → ListingRead
 answerOf r = pick (eqb (r .refusal) 0) (Accepted (r .state .rounds)) (refusedAs (r .refusal) (r .line))
 
 -- the first n cells as collected, the others as before
-abbrev pub filled : ℕ → (collected before : List ℕ) → List ℕ
-filled n xs ys = take n xs ++ drop n ys
+unfoldable pub filled : ℕ → (collected before : List ℕ) → List ℕ
+filled zero xs ys = ys
+filled (suc n) xs ys = set (filled n xs ys) n (getD xs n 0)
 
 -- of a refused reading nothing is written
 unfoldable pub headsLeft : Model → Ended → List ℕ → List ℕ

@@ -1,7 +1,7 @@
 // Reads a listing into the two lent arrays of a table.
 ghost use mathlib.Core.Path.{_≡_};
-ghost use Prim.Native.Nat.{_≤_};
-ghost use lib.ListN.{length};
+ghost use Prim.Native.Nat.{ℕ, _≤_};
+ghost use lib.ListN.{length, getD};
 ghost use Rattle.listing.specs.Lines.{startState, safeStep, faultOf, headInside, tripleInside, headStep, tripleStep, listed, stepOf, agreement, finished, readLines, Counted};
 ghost use Rattle.listing.specs.Reading.{refusedAs, filled, Reads};
 use line::Line;
@@ -12,6 +12,9 @@ use table::Size;
 
 // The largest rank, and the most rounds.
 const LARGEST: u32 = 65534;
+
+// The most bytes of a listing.
+const LONGEST: usize = 45056;
 
 // The rounds of an accepted listing, or why it is refused and the line.
 pub enum ListingRead {
@@ -169,7 +172,14 @@ fn take_triple(size: Size, s: State, q: u32, g: u32, e: u32, rank: u32) -> Step
             state: s,
         };
     }
-    table::put_triple(&mut cells, size, q as usize, g as usize, e as usize, rank as u16);
+    table::put_triple(
+        &mut cells,
+        size,
+        q as usize,
+        g as usize,
+        e as usize,
+        rank as u16,
+    );
     let mut next = s;
     next.triples = s.triples + 1;
     next.triplecells = cells;
@@ -300,23 +310,47 @@ fn refused_as(n: u8, line: usize) -> ListingRead
     ListingRead::OutOfRange(line)
 }
 
+// A cell, 0 past the end.
+fn cell(cells: &[u16], i: usize) -> u16
+    ensures { λ r. ⌜ r ≡ getD (now (cells .entry)) i 0 ⌝ }
+{
+    if cells.len() <= i {
+        return 0;
+    }
+    cells[i]
+}
+
 // Copies the first n cells.
 fn copy(from: &[u16], to: &mut [u16], n: usize)
-    requires { ⌜ (n ≤ length (now from)) × (n ≤ length (now to)) ⌝ }
+    requires { ⌜ n ≤ length (now to) ⌝ }
     ensures { λ _. ⌜ now (to .exit) ≡ filled n (now (from .entry)) (now (to .entry)) ⌝ }
 {
     let mut i: usize = 0;
     while i < n {
-        to[i] = from[i];
+        to[i] = cell(from, i);
         i += 1;
     }
 }
 
+fn fill_heads(s: State, heads: &mut [u16], n: usize)
+    requires { ⌜ n ≤ length (now heads) ⌝ }
+    ensures { λ _. ⌜ now (heads .exit) ≡ filled n (s .headcells) (now (heads .entry)) ⌝ }
+{
+    let cells = s.headcells;
+    copy(&cells, heads, n);
+}
+
+fn fill_triples(s: State, triples: &mut [u16], n: usize)
+    requires { ⌜ n ≤ length (now triples) ⌝ }
+    ensures { λ _. ⌜ now (triples .exit) ≡ filled n (s .triplecells) (now (triples .entry)) ⌝ }
+{
+    let cells = s.triplecells;
+    copy(&cells, triples, n);
+}
+
 // The table of a listing, for a model: collected first, and copied into the two arrays where the whole is accepted.
 pub fn read_listing(m: Model, text: &[u8], heads: &mut [u16], triples: &mut [u16]) -> ListingRead
-    ensures {
-        λ r. ⌜ Reads m (now (text .entry)) (now (heads .entry)) (now (triples .entry)) (now (heads .exit)) (now (triples .exit)) r ⌝
-    }
+    ensures { λ r. ⌜ Reads m (now (text .entry)) (now (heads .entry)) (now (triples .entry)) (now (heads .exit)) (now (triples .exit)) r ⌝ }
 {
     if !model::is_valid(m) {
         return ListingRead::Invalid;
@@ -333,18 +367,16 @@ pub fn read_listing(m: Model, text: &[u8], heads: &mut [u16], triples: &mut [u16
     if triples.len() < t {
         return ListingRead::Short;
     }
-    if 45056 < text.len() {
+    if LONGEST < text.len() {
         return ListingRead::TooLong;
     }
     let r = read_lines(size, text);
-    let refusal = r.refusal;
-    if refusal != 0 {
-        return refused_as(refusal, r.line);
+    let number = r.refusal;
+    if number != 0 {
+        return refused_as(number, r.line);
     }
     let s = r.state;
-    let collected = s.headcells;
-    copy(&collected, heads, h);
-    let others = s.triplecells;
-    copy(&others, triples, t);
+    fill_heads(s, heads, h);
+    fill_triples(s, triples, t);
     ListingRead::Accepted(s.rounds)
 }

@@ -1,93 +1,65 @@
+-- `listing::read_listing` meets its contract. Assumes nothing.
+use Rattle.model.proofs.Counted.{passed, failed}
+use Rattle.listing.proofs.Tested.{cells-fit}
+use Rattle.listing.proofs.Cases.{invalid-reads, short-heads, short-triples, long-reads, refused-reads, accepted-reads}
 use native.Mathlib.Omega.{arith}
 use borrow.Author.Needs.{needs}
 use Rattle.listing.proofs.read_listing.Statement.{statement}
 use Rattle.listing.proofs.read_listing.Tie as tie
-use Rattle.listing.proofs.read_listing.Reads as reads
-use Rattle.listing.proofs.read_listing.Lts as lts
-use Rattle.listing.proofs.copy.Reads as copy-reads
-use Rattle.listing.proofs.read_lines.Reads as read-lines-reads
-use Rattle.listing.proofs.refused_as.Reads as refused-as-reads
-use Rattle.model.proofs.is_valid.Reads as is-valid-reads
 
--- src/lib.rt:321:9
 is-valid-requires : tie.Need-is-valid-requires
 is-valid-requires c κs = search needs
 
--- src/lib.rt:322:9
 returns : tie.Need-returns
-returns c = search needs
+returns c = invalid-reads (c .before .before .before .before .before .args .m) (c .before .before .before .before .before .args .text .now) (c .before .before .before .before .before .args .heads .now) (c .before .before .before .before .before .args .triples .now) (failed (c .before .is-valid .ensures) (c .if1 .taken))
 
--- src/lib.rt:328:14
 cast-h : tie.Need-cast-h
 cast-h c = search needs
 
--- src/lib.rt:328:39
 cast-h-2 : tie.Need-cast-h-2
 cast-h-2 c = search needs
 
--- src/lib.rt:328:13
 mul-h : tie.Need-mul-h
-mul-h c = search needs
+mul-h c = let s = cells-fit (c .before .before .before .before .before .before .before .args .m) (passed (c .before .before .before .is-valid .ensures) (c .before .before .if1 .left)) in record { fits = omega arith }
 
--- src/lib.rt:329:18
 cast-t : tie.Need-cast-t
 cast-t c = search needs
 
--- src/lib.rt:329:13
 mul-t : tie.Need-mul-t
-mul-t c = search needs
+mul-t c = let s = cells-fit (c .before .before .before .before .before .before .before .before .args .m) (passed (c .before .before .before .before .is-valid .ensures) (c .before .before .before .if1 .left)) in record { fits = omega arith }
 
--- src/lib.rt:331:9
 returns-2 : tie.Need-returns-2
-returns-2 c = search needs
+returns-2 c = short-heads (c .before .before .before .before .before .before .before .before .before .args .m) (c .before .before .before .before .before .before .before .before .before .args .text .now) (c .before .before .before .before .before .before .before .before .before .args .heads .now) (c .before .before .before .before .before .before .before .before .before .args .triples .now) (passed (c .before .before .before .before .before .is-valid .ensures) (c .before .before .before .before .if1 .left)) (c .if2 .taken)
 
--- src/lib.rt:334:9
 returns-3 : tie.Need-returns-3
-returns-3 c = search needs
+returns-3 c = short-triples (c .before .before .before .before .before .before .before .before .before .before .args .m) (c .before .before .before .before .before .before .before .before .before .before .args .text .now) (c .before .before .before .before .before .before .before .before .before .before .args .heads .now) (c .before .before .before .before .before .before .before .before .before .before .args .triples .now) (passed (c .before .before .before .before .before .before .is-valid .ensures) (c .before .before .before .before .before .if1 .left)) (c .before .if2 .left) (c .if3 .taken)
 
--- src/lib.rt:337:9
 returns-4 : tie.Need-returns-4
-returns-4 c = search needs
+returns-4 c = long-reads (c .before .before .before .before .before .before .before .before .before .before .before .args .m) (c .before .before .before .before .before .before .before .before .before .before .before .args .text .now) (c .before .before .before .before .before .before .before .before .before .before .before .args .heads .now) (c .before .before .before .before .before .before .before .before .before .before .before .args .triples .now) (passed (c .before .before .before .before .before .before .before .is-valid .ensures) (c .before .before .before .before .before .before .if1 .left)) (c .before .before .if2 .left) (c .before .if3 .left) (c .if4 .taken)
 
--- src/lib.rt:339:9
 read-lines-requires : tie.Need-read-lines-requires
 read-lines-requires c κs = search needs
 
--- src/lib.rt:342:9
 refused-as-requires : tie.Need-refused-as-requires
 refused-as-requires c κs = search needs
 
--- src/lib.rt:342:9
 returns-5 : tie.Need-returns-5
-returns-5 c = search needs
+returns-5 c = refused-reads (c .before .before .before .before .before .before .before .before .before .before .before .before .before .before .args .m) (c .before .before .before .before .before .before .before .before .before .before .before .before .before .before .args .text .now) (c .before .before .before .before .before .before .before .before .before .before .before .before .before .before .args .heads .now) (c .before .before .before .before .before .before .before .before .before .before .before .before .before .before .args .triples .now) (passed (c .before .before .before .before .before .before .before .before .before .before .is-valid .ensures) (c .before .before .before .before .before .before .before .before .before .if1 .left)) (c .before .before .before .before .before .if2 .left) (c .before .before .before .before .if3 .left) (c .before .before .before .if4 .left) (c .before .before .read-lines .ensures) (c .before .if5 .taken) (c .refused-as .ensures)
 
--- src/lib.rt:346:10
-slice-aggregate-copy : tie.Need-slice-aggregate-copy
-slice-aggregate-copy c = search needs
+fill-heads-requires : tie.Need-fill-heads-requires
+fill-heads-requires c κs = search needs
 
--- src/lib.rt:346:5
-copy-requires : tie.Need-copy-requires
-copy-requires c κs = search needs
+fill-triples-requires : tie.Need-fill-triples-requires
+fill-triples-requires c κs = search needs
 
--- src/lib.rt:348:10
-slice-aggregate-copy-2 : tie.Need-slice-aggregate-copy-2
-slice-aggregate-copy-2 c = search needs
-
--- src/lib.rt:348:5
-copy-requires-2 : tie.Need-copy-requires-2
-copy-requires-2 c κs = search needs
-
--- src/lib.rt:316:1
 same-length : tie.Need-same-length
 same-length c = search needs
 
--- src/lib.rt:316:1
 same-length-2 : tie.Need-same-length-2
 same-length-2 c = search needs
 
--- src/lib.rt:316:1
 returns-6 : tie.Need-returns-6
-returns-6 c = search needs
+returns-6 c = accepted-reads (c .before .before .before .before .before .before .before .before .before .before .before .before .before .before .before .before .before .before .before .before .before .before .args .m) (c .before .before .before .before .before .before .before .before .before .before .before .before .before .before .before .before .before .before .before .before .before .before .args .text .now) (c .before .before .before .before .before .before .before .before .before .before .before .before .before .before .before .before .before .before .before .before .before .before .args .heads .now) (c .before .before .before .before .before .before .before .before .before .before .before .before .before .before .before .before .before .before .before .before .before .before .args .triples .now) (passed (c .before .before .before .before .before .before .before .before .before .before .before .before .before .before .before .before .before .before .is-valid .ensures) (c .before .before .before .before .before .before .before .before .before .before .before .before .before .before .before .before .before .if1 .left)) (c .before .before .before .before .before .before .before .before .before .before .before .before .before .if2 .left) (c .before .before .before .before .before .before .before .before .before .before .before .before .if3 .left) (c .before .before .before .before .before .before .before .before .before .before .before .if4 .left) (c .before .before .before .before .before .before .before .before .before .before .read-lines .ensures) (c .before .before .before .before .before .before .before .before .before .if5 .left) (c .before .before .before .before .before .before .fill-heads .ensures) (c .before .before .fill-triples .ensures)
 
 pub read-listing-spec : {M : Type 1} → statement M
 read-listing-spec =
@@ -106,10 +78,8 @@ read-listing-spec =
     read-lines-requires
     refused-as-requires
     returns-5
-    slice-aggregate-copy
-    copy-requires
-    slice-aggregate-copy-2
-    copy-requires-2
+    fill-heads-requires
+    fill-triples-requires
     same-length
     same-length-2
     returns-6)

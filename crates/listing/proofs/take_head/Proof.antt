@@ -1,53 +1,38 @@
+-- `listing::take_head` meets its contract. Assumes nothing.
 use mathlib.Core.Path.{sym, _∙_}
 use Rattle.listing.proofs.Steps.{fault-found, fault-rank, head-refused, head-taken}
 use native.Mathlib.Omega.{arith}
 use borrow.Author.Needs.{needs}
 use Rattle.listing.proofs.take_head.Statement.{statement}
 use Rattle.listing.proofs.take_head.Tie as tie
-use Rattle.listing.proofs.take_head.Reads as reads
-use Rattle.listing.proofs.take_head.Lts as lts
-use Rattle.listing.proofs.fault.Reads as fault-reads
-use Rattle.listing.proofs.head_inside.Reads as head-inside-reads
-use Rattle.table.proofs.head_at.Reads as head-at-reads
-use Rattle.table.proofs.put_head.Reads as put-head-reads
 
--- src/lib.rt:140:31
 slice-aggregate-head-at : tie.Need-slice-aggregate-head-at
 slice-aggregate-head-at c = search needs
 
--- src/lib.rt:140:9
 head-at-requires : tie.Need-head-at-requires
 head-at-requires c κs = search needs
 
--- src/lib.rt:141:34
 head-inside-requires : tie.Need-head-inside-requires
 head-inside-requires c κs = search needs
 
--- src/lib.rt:141:9
 fault-requires : tie.Need-fault-requires
 fault-requires c κs = search needs
 
--- src/lib.rt:143:9
 returns : tie.Need-returns
 returns c = head-refused (c .before .before .before .before .before .before .args .size) (c .before .before .before .before .before .before .args .s) (c .before .before .before .before .before .before .args .q) (c .before .before .before .before .before .before .args .g) (c .before .before .before .before .before .before .args .rank) (fault-found (c .before .before .before .before .before .before .args .s .begun) (c .before .before .before .before .before .before .args .rank) (c .before .fault .ensures) (c .before .before .before .head-at .ensures) (c .before .before .head-inside .ensures)) (c .if1 .taken)
 
--- src/lib.rt:148:21
 slice-aggregate-put-head : tie.Need-slice-aggregate-put-head
 slice-aggregate-put-head c = search needs
 
--- src/lib.rt:148:63
 cast-put-head : tie.Need-cast-put-head
 cast-put-head c = omega (arith, fault-rank _ _ _ (c .before .before .before .before .before .before .before .args .rank) (sym (c .before .before .fault .ensures) ∙ c .before .if1 .left))
 
--- src/lib.rt:148:5
 put-head-requires : tie.Need-put-head-requires
 put-head-requires c κs = search needs
 
--- src/lib.rt:150:18
 add-next : tie.Need-add-next
 add-next c = search needs
 
--- src/lib.rt:135:1
 returns-2 : tie.Need-returns-2
 returns-2 c = head-taken (c .before .before .before .before .before .before .before .before .before .before .args .size) (c .before .before .before .before .before .before .before .before .before .before .args .s) (c .before .before .before .before .before .before .before .before .before .before .args .q) (c .before .before .before .before .before .before .before .before .before .before .args .g) (c .before .before .before .before .before .before .before .before .before .before .args .rank) (fault-found (c .before .before .before .before .before .before .before .before .before .before .args .s .begun) (c .before .before .before .before .before .before .before .before .before .before .args .rank) (c .before .before .before .before .before .fault .ensures) (c .before .before .before .before .before .before .before .head-at .ensures) (c .before .before .before .before .before .before .head-inside .ensures)) (c .before .before .before .before .if1 .left) (c .before .before .put-head .ensures)
 

@@ -1,84 +1,60 @@
+-- `listing::take_line` meets its contract. Assumes nothing.
 use Rattle.listing.proofs.Steps.{by-safe, by-head, by-triple, by-other}
-use native.Mathlib.Omega.{arith}
 use borrow.Author.Needs.{needs}
 use Rattle.listing.proofs.take_line.Statement.{statement}
 use Rattle.listing.proofs.take_line.Tie as tie
-use Rattle.listing.proofs.take_line.Reads as reads
-use Rattle.listing.proofs.take_line.Lts as lts
-use Rattle.listing.proofs.listed.Reads as listed-reads
-use Rattle.listing.proofs.take_head.Reads as take-head-reads
-use Rattle.listing.proofs.take_safe.Reads as take-safe-reads
-use Rattle.listing.proofs.take_triple.Reads as take-triple-reads
 
--- src/lib.rt:210:9
 listed-requires : tie.Need-listed-requires
 listed-requires c κs = search needs
 
--- src/lib.rt:212:29
 array-read-take-safe : tie.Need-array-read-take-safe
 array-read-take-safe c = search needs
 
--- src/lib.rt:212:35
 array-read-take-safe-2 : tie.Need-array-read-take-safe-2
 array-read-take-safe-2 c = search needs
 
--- src/lib.rt:212:41
 array-read-take-safe-3 : tie.Need-array-read-take-safe-3
 array-read-take-safe-3 c = search needs
 
--- src/lib.rt:212:9
 take-safe-requires : tie.Need-take-safe-requires
 take-safe-requires c κs = search needs
 
--- src/lib.rt:212:9
 returns : tie.Need-returns
 returns c = by-safe (c .before .before .before .before .before .args .size) (c .before .before .before .before .before .args .s) (c .before .before .before .before .before .args .l) (c .before .before .listed .ensures) (c .before .if1 .taken) (c .take-safe .ensures)
 
--- src/lib.rt:215:35
 array-read-take-head : tie.Need-array-read-take-head
 array-read-take-head c = search needs
 
--- src/lib.rt:215:41
 array-read-take-head-2 : tie.Need-array-read-take-head-2
 array-read-take-head-2 c = search needs
 
--- src/lib.rt:215:47
 array-read-take-head-3 : tie.Need-array-read-take-head-3
 array-read-take-head-3 c = search needs
 
--- src/lib.rt:215:9
 take-head-requires : tie.Need-take-head-requires
 take-head-requires c κs = search needs
 
--- src/lib.rt:215:9
 returns-2 : tie.Need-returns-2
 returns-2 c = by-head (c .before .before .before .before .before .before .args .size) (c .before .before .before .before .before .before .args .s) (c .before .before .before .before .before .before .args .l) (c .before .before .before .listed .ensures) (c .before .if2 .taken) (c .take-head .ensures)
 
--- src/lib.rt:218:37
 array-read-take-triple : tie.Need-array-read-take-triple
 array-read-take-triple c = search needs
 
--- src/lib.rt:218:43
 array-read-take-triple-2 : tie.Need-array-read-take-triple-2
 array-read-take-triple-2 c = search needs
 
--- src/lib.rt:218:49
 array-read-take-triple-3 : tie.Need-array-read-take-triple-3
 array-read-take-triple-3 c = search needs
 
--- src/lib.rt:218:55
 array-read-take-triple-4 : tie.Need-array-read-take-triple-4
 array-read-take-triple-4 c = search needs
 
--- src/lib.rt:218:9
 take-triple-requires : tie.Need-take-triple-requires
 take-triple-requires c κs = search needs
 
--- src/lib.rt:218:9
 returns-3 : tie.Need-returns-3
 returns-3 c = by-triple (c .before .before .before .before .before .before .before .args .size) (c .before .before .before .before .before .before .before .args .s) (c .before .before .before .before .before .before .before .args .l) (c .before .before .before .before .listed .ensures) (c .before .if3 .taken) (c .take-triple .ensures)
 
--- src/lib.rt:203:1
 returns-4 : tie.Need-returns-4
 returns-4 c = by-other (c .before .before .before .before .before .before .args .size) (c .before .before .before .before .before .before .args .s) (c .before .before .before .before .before .before .args .l) (c .before .before .before .listed .ensures) (c .before .before .if1 .left) (c .before .if2 .left) (c .if3 .left)
 

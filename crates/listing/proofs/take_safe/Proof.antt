@@ -1,24 +1,18 @@
+-- `listing::take_safe` meets its contract. Assumes nothing.
 use Rattle.listing.proofs.Steps.{safe-twice, safe-large, safe-taken}
-use native.Mathlib.Omega.{arith}
 use borrow.Author.Needs.{needs}
 use Rattle.listing.proofs.take_safe.Statement.{statement}
 use Rattle.listing.proofs.take_safe.Tie as tie
-use Rattle.listing.proofs.take_safe.Reads as reads
-use Rattle.listing.proofs.take_safe.Lts as lts
 
--- src/lib.rt:75:9
 returns : tie.Need-returns
 returns c = safe-twice _ _ _ _ (c .if1 .taken)
 
--- src/lib.rt:81:9
 returns-2 : tie.Need-returns-2
 returns-2 c = safe-large _ _ _ _ (c .before .if1 .left) (c .if2 .taken)
 
--- src/lib.rt:88:19
 cast-next : tie.Need-cast-next
 cast-next c = search needs
 
--- src/lib.rt:71:1
 returns-3 : tie.Need-returns-3
 returns-3 c = safe-taken (c .before .before .before .args .s) _ _ _ (c .before .if1 .left) (c .if2 .left)
 

@@ -1,53 +1,38 @@
+-- `listing::take_triple` meets its contract. Assumes nothing.
 use mathlib.Core.Path.{sym, _∙_}
 use Rattle.listing.proofs.Steps.{fault-found, fault-rank, triple-refused, triple-taken}
 use native.Mathlib.Omega.{arith}
 use borrow.Author.Needs.{needs}
 use Rattle.listing.proofs.take_triple.Statement.{statement}
 use Rattle.listing.proofs.take_triple.Tie as tie
-use Rattle.listing.proofs.take_triple.Reads as reads
-use Rattle.listing.proofs.take_triple.Lts as lts
-use Rattle.listing.proofs.fault.Reads as fault-reads
-use Rattle.listing.proofs.triple_inside.Reads as triple-inside-reads
-use Rattle.table.proofs.put_triple.Reads as put-triple-reads
-use Rattle.table.proofs.triple_at.Reads as triple-at-reads
 
--- src/lib.rt:164:33
 slice-aggregate-triple-at : tie.Need-slice-aggregate-triple-at
 slice-aggregate-triple-at c = search needs
 
--- src/lib.rt:164:9
 triple-at-requires : tie.Need-triple-at-requires
 triple-at-requires c κs = search needs
 
--- src/lib.rt:165:34
 triple-inside-requires : tie.Need-triple-inside-requires
 triple-inside-requires c κs = search needs
 
--- src/lib.rt:165:9
 fault-requires : tie.Need-fault-requires
 fault-requires c κs = search needs
 
--- src/lib.rt:167:9
 returns : tie.Need-returns
 returns c = triple-refused (c .before .before .before .before .before .before .args .size) (c .before .before .before .before .before .before .args .s) (c .before .before .before .before .before .before .args .q) (c .before .before .before .before .before .before .args .g) (c .before .before .before .before .before .before .args .e) (c .before .before .before .before .before .before .args .rank) (fault-found (c .before .before .before .before .before .before .args .s .begun) (c .before .before .before .before .before .before .args .rank) (c .before .fault .ensures) (c .before .before .before .triple-at .ensures) (c .before .before .triple-inside .ensures)) (c .if1 .taken)
 
--- src/lib.rt:172:23
 slice-aggregate-put-triple : tie.Need-slice-aggregate-put-triple
 slice-aggregate-put-triple c = search needs
 
--- src/lib.rt:172:77
 cast-put-triple : tie.Need-cast-put-triple
 cast-put-triple c = omega (arith, fault-rank _ _ _ (c .before .before .before .before .before .before .before .args .rank) (sym (c .before .before .fault .ensures) ∙ c .before .if1 .left))
 
--- src/lib.rt:172:5
 put-triple-requires : tie.Need-put-triple-requires
 put-triple-requires c κs = search needs
 
--- src/lib.rt:174:20
 add-next : tie.Need-add-next
 add-next c = search needs
 
--- src/lib.rt:159:1
 returns-2 : tie.Need-returns-2
 returns-2 c = triple-taken (c .before .before .before .before .before .before .before .before .before .before .args .size) (c .before .before .before .before .before .before .before .before .before .before .args .s) (c .before .before .before .before .before .before .before .before .before .before .args .q) (c .before .before .before .before .before .before .before .before .before .before .args .g) (c .before .before .before .before .before .before .before .before .before .before .args .e) (c .before .before .before .before .before .before .before .before .before .before .args .rank) (fault-found (c .before .before .before .before .before .before .before .before .before .before .args .s .begun) (c .before .before .before .before .before .before .before .before .before .before .args .rank) (c .before .before .before .before .before .fault .ensures) (c .before .before .before .before .before .before .before .triple-at .ensures) (c .before .before .before .before .before .before .triple-inside .ensures)) (c .before .before .before .before .if1 .left) (c .before .before .put-triple .ensures)
 
