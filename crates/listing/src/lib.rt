@@ -29,28 +29,28 @@ pub enum ListingRead {
 
 // What is read so far: the header, how many lines of each kind came, and the ranks that they gave. They are collected here, so that
 // nothing is written if a later line is refused.
-struct State {
-    begun: u8,
-    rounds: u16,
-    headcount: u32,
-    triplecount: u32,
-    heads: u32,
-    triples: u32,
-    headcells: [u16; 256],
-    triplecells: [u16; 2048],
+pub struct State {
+    pub begun: u8,
+    pub rounds: u16,
+    pub headcount: u32,
+    pub triplecount: u32,
+    pub heads: u32,
+    pub triples: u32,
+    pub headcells: [u16; 256],
+    pub triplecells: [u16; 2048],
 }
 
 // What a line does: 01's number of its refusal, or 0, and the state after it.
-struct Step {
-    refusal: u8,
-    state: State,
+pub struct Step {
+    pub refusal: u8,
+    pub state: State,
 }
 
 // Where the reading ended, and why.
-struct Ended {
-    refusal: u8,
-    line: usize,
-    state: State,
+pub struct Ended {
+    pub refusal: u8,
+    pub line: usize,
+    pub state: State,
 }
 
 fn start() -> State

@@ -1,3 +1,5 @@
 -- Laws of what is put, and of the listing.
 pub mod Bytes
 pub mod Whole
+pub mod Back
+pub mod Again
