@@ -1,29 +1,25 @@
 -- A line that was written is read back as its word and its numbers. Assumes nothing.
 use mathlib.Core.Path.{_≡_, refl, ap, sym, _∙_}
-use mathlib.Core.Bool.{Bool, true, false}
 use mathlib.Core.List.{List, [], _∷_, _++_, append-nil, append-assoc, map}
-use Prim.Native.Nat.{ℕ, zero, suc, _+_, _-_, _*_, _<_, _≤_}
+use Prim.Native.Nat.{ℕ, _+_, _-_, _<_, _≤_}
 use native.Mathlib.Omega.{arith}
 use lib.Dec.{T, eqb}
-use lib.ListN.{length, getD, replicate, length-map}
+use lib.ListN.{length, replicate}
 use lib.Seq.{append-snoc}
-use borrow.Author.Tests.{eq-eqb, ne-eqb}
-use Rattle.text.specs.Split.{pick, first, later, split, joined, without, sameBytes, Each}
-use Rattle.text.specs.Number.{most, numbersOf}
+use borrow.Author.Tests.{eq-eqb}
+use Rattle.text.specs.Split.{pick, first, later, split, joined, without, Each}
+use Rattle.text.specs.Number.{most}
 use Rattle.text.specs.Digits.{decimal}
 use Rattle.text.specs.declared.Numbers.{Numbers}
 use Rattle.text.proofs.Split.{split-append, without-append}
 use Rattle.text.proofs.Back.{without-digits, numbers-back, fields-back}
 use Rattle.product.specs.Lists.{over}
 use Rattle.table.specs.declared.Size.{Size}
-use Rattle.line.specs.Line.{wordOf, wants, malformed, lineOf, safe, head, erase}
-use Rattle.line.specs.declared.Line.{Line}
+use Rattle.line.specs.Line.{wordOf, wants, malformed, lineOf}
 use Rattle.line.specs.declared.Word.{Word}
-use Rattle.line.specs.declared.Word.the-variants as W
 use Rattle.listing.specs.declared.State.{State}
-use Rattle.listing.specs.declared.Step.{Step}
 use Rattle.listing.specs.declared.Ended.{Ended}
-use Rattle.listing.specs.Lines.{goes, ends, stepOf, safeStep, headStep, tripleStep, readFrom, readLines}
+use Rattle.listing.specs.Lines.{goes, ends, stepOf, readFrom, readLines}
 use Rattle.listing.proofs.Lines.{from-next}
 use Rattle.printing.specs.Listing.{lineBytes}
 use Rattle.printing.proofs.Bytes.{field}
@@ -89,10 +85,11 @@ module _ (z : Size) (s t : State) (w : List ℕ) (n : ℕ) (ns : List ℕ) {k : 
   pub leads-line : Leads z s (lineBytes w (n ∷ ns)) t
   unfolding lineBytes bySplit
   leads-line = record {
-    leads = λ i rest.
-        (i + 1,
-        ap (readLines z i s) (append-snoc body 10 rest)
-        ∙ ap (bySplit i) (split-append 10 body rest (without-append 10 w (over (n ∷ ns) field) g (no-feed (n ∷ ns))))
-        ∙ from-next z s i body (first 10 rest) (later 10 rest) (ap (λ x. x .refusal) is)
-        ∙ ap (λ x. readLines z (i + 1) (x .state) rest) is);
+    leads = λ i rest. (
+      i + 1,
+      ap (readLines z i s) (append-snoc body 10 rest)
+          ∙ ap (bySplit i) (split-append 10 body rest (without-append 10 w (over (n ∷ ns) field) g (no-feed (n ∷ ns))))
+          ∙ from-next z s i body (first 10 rest) (later 10 rest) (ap (λ x. x .refusal) is)
+          ∙ ap (λ x. readLines z (i + 1) (x .state) rest) is,
+    );
   }

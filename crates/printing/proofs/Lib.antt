@@ -3,3 +3,4 @@ pub mod Bytes
 pub mod Whole
 pub mod Back
 pub mod Again
+pub mod Round

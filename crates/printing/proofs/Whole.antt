@@ -2,7 +2,7 @@
 use mathlib.Core.Path.{_≡_, ap, sym, _∙_}
 use mathlib.Core.Bool.{true, false}
 use mathlib.Core.List.{List, [], _∷_}
-use Prim.Native.Nat.{ℕ, zero, suc, _+_, _*_, _<_, _≤_}
+use Prim.Native.Nat.{ℕ, zero, suc, _*_, _<_, _≤_}
 use native.Mathlib.Nat.{zero-add}
 use native.Mathlib.Omega.{arith}
 use lib.Dec.{eqb}
@@ -14,7 +14,7 @@ use Rattle.line.specs.Line.{safe}
 use Rattle.model.specs.declared.Model.{Model}
 use Rattle.model.specs.Valid.{valid}
 use Rattle.model.proofs.Valid.{valid-sizes}
-use Rattle.listing.specs.Tested.{headsOf, triplesOf, tested}
+use Rattle.listing.specs.Tested.{headsOf, triplesOf}
 use Rattle.listing.specs.Reading.{sizeOf}
 use Rattle.listing.proofs.Tested.{tested-invalid, tested-heads, tested-triples, tested-well}
 use Rattle.printing.specs.declared.Kind.the-variants.{Head, Triple}
