@@ -155,9 +155,13 @@ fact-short kind G Q i rank h k = go (eqb rank absent)
     go true = omega arith
     go false = cell-short kind G Q i rank h k
 
-pub cells-short : (kind : Kind) (G Q : ℕ) (cells : List ℕ) → ((i : ℕ) → getD cells i 0 < 65536) → (n : ℕ) → n ≤ 2048 → length (cellsBytes kind G Q cells n) ≤ 30 * n
+-- lines of at most w bytes each
+pub cells-within : (kind : Kind) (G Q : ℕ) (cells : List ℕ) (w n : ℕ) → ((i : ℕ) → i < n → length (ifPresent kind G Q i (getD cells i 0)) ≤ w) → length (cellsBytes kind G Q cells n) ≤ w * n
 unfolding cellsBytes
-cells-short kind G Q cells h zero k = omega arith
-cells-short kind G Q cells h (suc n) k =
+cells-within kind G Q cells w zero h = omega arith
+cells-within kind G Q cells w (suc n) h =
     rw (over-suc n (λ i. ifPresent kind G Q i (getD cells i 0)))
-    (omega (arith, length-append (cellsBytes kind G Q cells n) (ifPresent kind G Q n (getD cells n 0)), fact-short kind G Q n (getD cells n 0) (omega arith) (h n), cells-short kind G Q cells h n (omega arith)))
+    (omega (arith, length-append (cellsBytes kind G Q cells n) (ifPresent kind G Q n (getD cells n 0)), h n (omega arith), cells-within kind G Q cells w n (λ i l. h i (omega arith))))
+
+pub cells-short : (kind : Kind) (G Q : ℕ) (cells : List ℕ) → ((i : ℕ) → getD cells i 0 < 65536) → (n : ℕ) → n ≤ 2048 → length (cellsBytes kind G Q cells n) ≤ 30 * n
+cells-short kind G Q cells h n k = cells-within kind G Q cells 30 n (λ i l. fact-short kind G Q i (getD cells i 0) (omega arith) (h i))

@@ -1,3 +1,6 @@
 -- Laws of what is put, and of the listing.
 pub mod Bytes
 pub mod Whole
+pub mod Back
+pub mod Again
+pub mod Round

@@ -1,35 +1,29 @@
 -- The header and the whole listing as they are put, and what the public call answers in each case. Assumes nothing.
-use mathlib.Core.Path.{_≡_, ap, _∙_}
+use mathlib.Core.Path.{_≡_, ap, sym, _∙_}
 use mathlib.Core.Bool.{true, false}
 use mathlib.Core.List.{List, [], _∷_}
-use Prim.Native.Nat.{ℕ, zero, suc, _+_, _*_, _<_, _≤_}
-use native.Mathlib.Nat.{mul-le-mul}
+use Prim.Native.Nat.{ℕ, zero, suc, _*_, _<_, _≤_}
+use native.Mathlib.Nat.{zero-add}
 use native.Mathlib.Omega.{arith}
 use lib.Dec.{eqb}
 use lib.ListN.{length, getD, length-append}
-use borrow.Author.Tests.{lt-ltb, le-ltb}
 use Rattle.text.specs.Split.{pick}
 use Rattle.product.specs.Table.{absent}
 use Rattle.product.proofs.Lists.{over-suc}
 use Rattle.line.specs.Line.{safe}
-use Rattle.table.specs.declared.Size.{Size}
 use Rattle.model.specs.declared.Model.{Model}
 use Rattle.model.specs.Valid.{valid}
 use Rattle.model.proofs.Valid.{valid-sizes}
+use Rattle.listing.specs.Tested.{headsOf, triplesOf}
+use Rattle.listing.specs.Reading.{sizeOf}
+use Rattle.listing.proofs.Tested.{tested-invalid, tested-heads, tested-triples, tested-well}
 use Rattle.printing.specs.declared.Kind.the-variants.{Head, Triple}
 use Rattle.printing.specs.declared.Written.the-variants.{Invalid, Short, Bytes}
 use Rattle.printing.specs.Listing.{lineBytes, presentIn, cellsBytes, headerBytes, listingBytes}
 use Rattle.printing.specs.Writing.{Writes, Put, Whole, bytesOf}
 use Rattle.printing.proofs.Bytes.{then-put, line-short}
 
--- how many cells there can be
-pub heads-few : (G Q : ℕ) → G ≤ 32 → Q ≤ 8 → Q * G ≤ 256
-heads-few G Q g q = let x : Q * G ≤ 8 * 32 = mul-le-mul q g in omega arith
-
-pub triples-few : (G Q : ℕ) → G ≤ 32 → Q ≤ 8 → Q * G * Q ≤ 2048
-triples-few G Q g q = let x : Q * G * Q ≤ 256 * 8 = mul-le-mul (heads-few G Q g q) q in omega arith
-
--- and present ones among them
+-- no more cells are present than there are
 pub present-few : (cells : List ℕ) (n : ℕ) → length (presentIn cells n) ≤ n
 unfolding presentIn
 present-few cells zero = omega arith
@@ -65,32 +59,29 @@ module _ (G Q rounds : ℕ) (hs ts : List ℕ) where
 -- the public call, case by case
 module _ (m : Model) (rounds : ℕ) (hs ts out : List ℕ) where
   pub invalid-writes : valid m ≡ false → Writes m rounds hs ts out out Invalid
-  invalid-writes v = record { answers = rw v; leaves = rw v }
+  invalid-writes v = record { answers = sym (tested-invalid m hs ts v _ _ _); leaves = sym (tested-invalid m hs ts v _ _ _) }
 
   module _ (v : valid m ≡ true) where
-    pub sizes-fit : (m .states * m .symbols ≤ 256) × (m .states * m .symbols * m .states ≤ 2048)
-    sizes-fit = let s = valid-sizes m (rw v tt) in (heads-few (m .symbols) (m .states) (s .symbols) (s .states), triples-few (m .symbols) (m .states) (s .symbols) (s .states))
+    pub short-heads : length hs < headsOf m → Writes m rounds hs ts out out Short
+    short-heads h = record { answers = sym (tested-heads m hs ts v h _ _ _); leaves = sym (tested-heads m hs ts v h _ _ _) }
 
-    pub short-heads : length hs < m .states * m .symbols → Writes m rounds hs ts out out Short
-    short-heads h = record { answers = rw (v, lt-ltb _ _ h); leaves = rw (v, lt-ltb _ _ h) }
+    module _ (h : headsOf m ≤ length hs) where
+      pub short-triples : length ts < triplesOf m → Writes m rounds hs ts out out Short
+      short-triples t = record { answers = sym (tested-triples m hs ts v h t _ _ _); leaves = sym (tested-triples m hs ts v h t _ _ _) }
 
-    module _ (h : m .states * m .symbols ≤ length hs) where
-      pub short-triples : length ts < m .states * m .symbols * m .states → Writes m rounds hs ts out out Short
-      short-triples t = record { answers = rw (v, le-ltb _ _ h, lt-ltb _ _ t); leaves = rw (v, le-ltb _ _ h, lt-ltb _ _ t) }
-
-      module _ (t : m .states * m .symbols * m .states ≤ length ts) where
-        pub whole : (size : Size) → size ≡ record { symbols = m .symbols; states = m .states } → Whole size hs ts
-        whole size e = let s = valid-sizes m (rw v tt) in rw e (record {
+      module _ (t : triplesOf m ≤ length ts) where
+        pub whole : Whole (sizeOf m) hs ts
+        whole = let s = valid-sizes m (rw v tt) in record {
           some-symbol = s .some-symbol;
           symbols = s .symbols;
           some-state = s .some-state;
           states = s .states;
           heads-there = h;
           triples-there = t;
-        })
+        }
 
         pub all-writes : {after : List ℕ} {n : ℕ} → Put out after 0 n (bytesOf m rounds hs ts) → Writes m rounds hs ts out after (Bytes n)
         all-writes x = record {
-          answers = rw (v, le-ltb _ _ h, le-ltb _ _ t) (ap Bytes (x .place ∙ (let e : 0 + length (bytesOf m rounds hs ts) ≡ length (bytesOf m rounds hs ts) = omega arith in e)));
-          leaves = rw (v, le-ltb _ _ h, le-ltb _ _ t) (x .cells);
+          answers = ap Bytes (x .place ∙ zero-add (length (bytesOf m rounds hs ts))) ∙ sym (tested-well m hs ts v h t _ _ _);
+          leaves = x .cells ∙ sym (tested-well m hs ts v h t _ _ _);
         }

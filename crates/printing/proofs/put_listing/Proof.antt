@@ -4,7 +4,8 @@ use Prim.Native.Nat.{_<_, _*_}
 use Rattle.printing.specs.declared.Kind.the-variants.{Head}
 use mathlib.Core.Path.{_∙_}
 use Rattle.printing.proofs.Bytes.{put-length, cells-short}
-use Rattle.printing.proofs.Whole.{heads-few, triples-few, header-short, listing-put}
+use Rattle.listing.proofs.Tested.{heads-few, triples-few}
+use Rattle.printing.proofs.Whole.{header-short, listing-put}
 use native.Mathlib.Omega.{arith}
 use borrow.Author.Needs.{needs}
 use Rattle.printing.proofs.put_listing.Statement.{statement}
