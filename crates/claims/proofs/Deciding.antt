@@ -30,7 +30,7 @@ use Rattle.recheck.specs.declared.Recheck.the-variants.{Accepted}
 use Rattle.recheck.specs.Recheck as check
 use Rattle.recheck.specs.Recheck.{recheck}
 use Rattle.recheck.proofs.Answers.{accepted-exactly, accepted-safe}
-use Rattle.trace.proofs.Laid.{laid-view}
+use Rattle.decide.proofs.Laid.{ranks-laid}
 use Rattle.claims.specs.Deciding.{Deciding, Accepting}
 
 pub accepting : Accepting
@@ -105,7 +105,7 @@ module _ (m : Model) (hs ts : List ℕ) (ready : T (decides m hs ts)) where
     table-is : view (m .symbols) (m .states) hs′ ts′ ≡ ranks (productOf m) n
     table-is =
         rw (heads-left b (Safe n) hs′ ts′ d, triples-left b (Safe n) hs′ ts′ d, safe-answer)
-        (laid-view m is-valid n (drop (headCount m) hs) (drop (tripleCount m) ts))
+        (ranks-laid m is-valid n (drop (headCount m) hs) (drop (tripleCount m) ts))
 
     heads-long : headCount m ≤ length hs
     heads-long = leb→le (headCount m) (length hs) (and-left (leb (headCount m) (length hs)) (leb (tripleCount m) (length ts)) long)

@@ -7,6 +7,5 @@ pub mod Unfolds
 pub mod Guilty
 pub mod Taken
 pub mod Ranked
-pub mod Laid
 pub mod Write
 pub mod Outcome

@@ -29,7 +29,7 @@ use Rattle.trace.specs.declared.Traced.{Traced}
 use Rattle.trace.specs.declared.Traced.the-variants.{Found, Invalid, Short, Spent, Safe, Cut}
 use Rattle.trace.specs.Written.{Ranked, violationSteps, Written}
 use Rattle.trace.specs.Outcome.{Answer, traced, refused, meaning, tracedBy, stepsBy, Outcome}
-use Rattle.trace.proofs.Laid.{laid-view}
+use Rattle.decide.proofs.Laid.{ranks-laid}
 
 -- a verdict was answered: the model is valid, the arrays are long enough, and the rounds gave it
 module _ (m : Model) (budget h t : ℕ) (v : Verdict) where
@@ -86,7 +86,7 @@ module _ (m : Model) (budget : ℕ) (hs ts hs′ ts′ : List ℕ) {r : Decision
     small = few-rounds;
     table =
         ap₂ (view (m .symbols) (m .states)) laid-heads laid-triples
-        ∙ laid-view m (is-violation .valid-model) n (drop (headCount m) hs) (drop (tripleCount m) ts);
+        ∙ ranks-laid m (is-violation .valid-model) n (drop (headCount m) hs) (drop (tripleCount m) ts);
   }
 
   -- the trace that was written from them
