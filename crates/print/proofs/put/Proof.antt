@@ -1,0 +1,28 @@
+-- `print::put` meets its contract. Assumes nothing.
+use Rattle.print.proofs.Puts.{byte-put, byte-past}
+use native.Mathlib.Omega.{arith}
+use borrow.Author.Needs.{needs}
+use Rattle.print.proofs.put.Statement.{statement}
+use Rattle.print.proofs.put.Tie as tie
+
+add-result : tie.Need-add-result
+add-result c = search needs
+
+returns : tie.Need-returns
+returns c = byte-past _ _ _ (c .if1 .taken)
+
+slice-write-out : tie.Need-slice-write-out
+slice-write-out c = search needs
+
+add-result-2 : tie.Need-add-result-2
+add-result-2 c = search needs
+
+same-length : tie.Need-same-length
+same-length c = search needs
+
+returns-2 : tie.Need-returns-2
+returns-2 c = byte-put _ _ _ (omega arith)
+
+pub put-spec : {M : Type 1} → statement M
+put-spec =
+    tie.close (tie.spec add-result returns slice-write-out add-result-2 same-length returns-2)
