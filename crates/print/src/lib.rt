@@ -2,14 +2,13 @@
 // says that something was cut, so that no place can wrap.
 ghost use mathlib.Core.Path.{_≡_};
 ghost use mathlib.Core.List.{[], _∷_};
-ghost use Prim.Native.Nat.{_+_, min};
 ghost use Rattle.product.specs.Lists.{over};
 ghost use Rattle.print.specs.Bytes.{fieldBytes, lineBytes, namedBytes};
-ghost use Rattle.print.specs.Put.{Put};
+ghost use Rattle.print.specs.Put.{placeIn, Put};
 
-// The place, or the one that says that something was cut from n bytes.
-fn place(n: usize, at: usize) -> usize
-    ensures { λ r. ⌜ r ≡ min at (n + 1) ⌝ }
+// The place in n bytes, or the one that says that something was cut.
+pub fn place(n: usize, at: usize) -> usize
+    ensures { λ r. ⌜ r ≡ placeIn n at ⌝ }
 {
     if n < at {
         return n + 1;
