@@ -2,11 +2,14 @@
 use mathlib.Core.Path.{_≡_}
 use mathlib.Core.Bool.{true, false}
 use mathlib.Core.List.{List, [], _∷_}
-use Prim.Native.Nat.{ℕ, _*_, _<_, _≤_}
-use native.Mathlib.Nat.{mul-le-mul}
+use Prim.Native.Nat.{ℕ, zero, suc, _*_, _<_, _≤_}
 use native.Mathlib.Omega.{arith}
-use lib.ListN.{length}
+use lib.Dec.{eqb}
+use lib.ListN.{length, getD, length-append}
 use borrow.Author.Tests.{lt-ltb, le-ltb}
+use Rattle.text.specs.Split.{pick}
+use Rattle.product.specs.Table.{absent}
+use Rattle.product.proofs.Lists.{over-suc}
 use Rattle.line.specs.Line.{safe}
 use Rattle.table.specs.declared.Size.{Size}
 use Rattle.model.specs.declared.Model.{Model}
@@ -16,15 +19,22 @@ use Rattle.printing.specs.declared.Kind.the-variants.{Head, Triple}
 use Rattle.printing.specs.declared.Written.the-variants.{Invalid, Short, Bytes, Cut}
 use Rattle.printing.specs.Listing.{lineBytes, presentIn, cellsBytes, headerBytes, listingBytes}
 use Rattle.printing.specs.Writing.{Writes, Rows, Whole, bytesOf}
+use Rattle.listing.proofs.Tested.{heads-few, triples-few}
+use Rattle.printing.proofs.Bytes.{line-short}
 use Rattle.print.specs.Put.{Put}
 use Rattle.print.proofs.Puts.{then-put, put-length}
 
--- how many cells there can be
-pub heads-few : (G Q : ℕ) → G ≤ 32 → Q ≤ 8 → Q * G ≤ 256
-heads-few G Q g q = let x : Q * G ≤ 8 * 32 = mul-le-mul q g in omega arith
-
-pub triples-few : (G Q : ℕ) → G ≤ 32 → Q ≤ 8 → Q * G * Q ≤ 2048
-triples-few G Q g q = let x : Q * G * Q ≤ 256 * 8 = mul-le-mul (heads-few G Q g q) q in omega arith
+-- no more cells are present than there are
+pub present-few : (cells : List ℕ) (n : ℕ) → length (presentIn cells n) ≤ n
+unfolding presentIn
+present-few cells zero = omega arith
+present-few cells (suc n) =
+    rw (over-suc n (λ i. pick (eqb (getD cells i 0) absent) [] (i ∷ [])))
+    (omega (arith, length-append (presentIn cells n) (pick (eqb (getD cells n 0) absent) [] (n ∷ [])), present-few cells n, one (eqb (getD cells n 0) absent)))
+  where
+    one : (t : _) → length (pick t [] (n ∷ [])) ≤ 1
+    one true = omega arith
+    one false = omega arith
 
 -- the cells of a whole table
 module _ {size : Size} {hs ts : List ℕ} (w : Whole size hs ts) where
@@ -52,6 +62,16 @@ module _ (G Q rounds : ℕ) (hs ts : List ℕ) where
   unfolding headerBytes
   header-put e f x = rw (← e, ← f) x
 
+  pub header-short : rounds < 65536 → Q * G ≤ 256 → Q * G * Q ≤ 2048 → length (headerBytes G Q rounds hs ts) ≤ 23
+  unfolding headerBytes
+  header-short r h k = omega (arith, line-short safe (rounds ∷ length (presentIn hs (Q * G)) ∷ length (presentIn ts (Q * G * Q)) ∷ []) at)
+    where
+      at : (j : ℕ) → getD (rounds ∷ length (presentIn hs (Q * G)) ∷ length (presentIn ts (Q * G * Q)) ∷ []) j 0 < 65536
+      at zero = r
+      at (suc zero) = omega (arith, present-few hs (Q * G))
+      at (suc (suc zero)) = omega (arith, present-few ts (Q * G * Q))
+      at (suc (suc (suc j))) = omega arith
+
   pub listing-put : {o p q r : List ℕ} {a b c d : ℕ} → Put o p a b (headerBytes G Q rounds hs ts) → Put p q b c (cellsBytes Head G Q hs (Q * G))
       → Put q r c d (cellsBytes Triple G Q ts (Q * G * Q)) → Put o r a d (listingBytes G Q rounds hs ts)
   unfolding listingBytes
@@ -63,9 +83,6 @@ module _ (m : Model) (rounds : ℕ) (hs ts out : List ℕ) where
   invalid-writes v = record { answers = rw v; leaves = rw v }
 
   module _ (v : valid m ≡ true) where
-    pub sizes-fit : (m .states * m .symbols ≤ 256) × (m .states * m .symbols * m .states ≤ 2048)
-    sizes-fit = let s = valid-sizes m (rw v tt) in (heads-few (m .symbols) (m .states) (s .symbols) (s .states), triples-few (m .symbols) (m .states) (s .symbols) (s .states))
-
     pub short-heads : length hs < m .states * m .symbols → Writes m rounds hs ts out out Short
     short-heads h = record { answers = rw (v, lt-ltb _ _ h); leaves = rw (v, lt-ltb _ _ h) }
 

@@ -8,7 +8,7 @@ use lib.Seq.{sets}
 use Rattle.text.specs.Split.{pick}
 use Rattle.table.specs.declared.Size.{Size}
 use Rattle.model.specs.declared.Model.{Model}
-use Rattle.model.specs.Valid.{valid}
+use Rattle.listing.specs.Tested.{tested}
 use Rattle.printing.specs.declared.Written.{Written}
 use Rattle.printing.specs.declared.Written.the-variants.{Invalid, Short, Bytes, Cut}
 use Rattle.printing.specs.Listing.{listingBytes}
@@ -25,15 +25,6 @@ value Invalid = 0
 value Short = 0
 value (Bytes n) = n
 value Cut = 0
-
--- one of three: the record is not valid, an array is too short, or neither
-abbrev pub tested : {A : Type 0} → Model → (heads triples : List ℕ) → (invalid short well : A) → A
-tested m hs ts invalid short well =
-    pick (valid m)
-    (pick (ltb (length hs) (m .states * m .symbols)) short
-    (pick (ltb (length ts) (m .states * m .symbols * m .states)) short
-    well))
-    invalid
 
 abbrev pub bytesOf : Model → (rounds : ℕ) → (heads triples : List ℕ) → List ℕ
 bytesOf m rounds hs ts = listingBytes (m .symbols) (m .states) rounds hs ts

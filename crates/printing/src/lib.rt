@@ -11,7 +11,7 @@ use table::ABSENT;
 use table::Size;
 
 // What the cells of an array are of.
-enum Kind {
+pub enum Kind {
     Head,
     Triple,
 }

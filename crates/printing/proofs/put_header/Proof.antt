@@ -1,5 +1,6 @@
 -- `printing::put_header` meets its contract. Assumes nothing.
-use Rattle.printing.proofs.Whole.{heads-few, triples-few, header-put}
+use Rattle.listing.proofs.Tested.{heads-few, triples-few}
+use Rattle.printing.proofs.Whole.{header-put}
 use native.Mathlib.Omega.{arith}
 use borrow.Author.Needs.{needs}
 use Rattle.printing.proofs.put_header.Statement.{statement}

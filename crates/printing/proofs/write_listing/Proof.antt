@@ -1,8 +1,9 @@
 -- `printing::write_listing` meets its contract. Assumes nothing.
 use mathlib.Core.Path.{refl}
 use Rattle.model.proofs.Counted.{passed, failed}
+use Rattle.listing.proofs.Tested.{cells-fit}
 use Rattle.print.proofs.Puts.{put-length}
-use Rattle.printing.proofs.Whole.{sizes-fit, invalid-writes, short-heads, short-triples, whole, all-writes, cut-writes}
+use Rattle.printing.proofs.Whole.{invalid-writes, short-heads, short-triples, whole, all-writes, cut-writes}
 use native.Mathlib.Omega.{arith}
 use borrow.Author.Needs.{needs}
 use Rattle.printing.proofs.write_listing.Statement.{statement}
@@ -21,13 +22,13 @@ cast-h-2 : tie.Need-cast-h-2
 cast-h-2 c = search needs
 
 mul-h : tie.Need-mul-h
-mul-h c = let a = c .before .before .before .before .before .before .before .args in let s = sizes-fit (a .m) (a .rounds) (a .heads .now) (a .triples .now) (a .out .now) (passed (c .before .before .before .is-valid .ensures) (c .before .before .if1 .left)) in record { fits = omega arith }
+mul-h c = let a = c .before .before .before .before .before .before .before .args in let s = cells-fit (a .m) (passed (c .before .before .before .is-valid .ensures) (c .before .before .if1 .left)) in record { fits = omega arith }
 
 cast-t : tie.Need-cast-t
 cast-t c = search needs
 
 mul-t : tie.Need-mul-t
-mul-t c = let a = c .before .before .before .before .before .before .before .before .args in let s = sizes-fit (a .m) (a .rounds) (a .heads .now) (a .triples .now) (a .out .now) (passed (c .before .before .before .before .is-valid .ensures) (c .before .before .before .if1 .left)) in record { fits = omega arith }
+mul-t c = let a = c .before .before .before .before .before .before .before .before .args in let s = cells-fit (a .m) (passed (c .before .before .before .before .is-valid .ensures) (c .before .before .before .if1 .left)) in record { fits = omega arith }
 
 returns-2 : tie.Need-returns-2
 returns-2 c = let a = c .before .before .before .before .before .before .before .before .before .args in short-heads (a .m) (a .rounds) (a .heads .now) (a .triples .now) (a .out .now) (passed (c .before .before .before .before .before .is-valid .ensures) (c .before .before .before .before .if1 .left)) (c .if2 .taken)

@@ -1,0 +1,5 @@
+-- Laws of reading a listing.
+pub mod Steps
+pub mod Lines
+pub mod Tested
+pub mod Cases

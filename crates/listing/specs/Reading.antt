@@ -1,0 +1,69 @@
+-- What reading a listing answers, and what it leaves in the two lent arrays. Assumes nothing.
+use mathlib.Core.List.{List}
+use mathlib.Core.Path.{_≡_}
+use Prim.Native.Nat.{ℕ, zero, suc}
+use lib.Dec.{eqb, ltb}
+use lib.ListN.{length, getD, set}
+use Rattle.text.specs.Split.{pick}
+use Rattle.table.specs.declared.Size.{Size}
+use Rattle.model.specs.declared.Model.{Model}
+use Rattle.listing.specs.Tested.{headsOf, triplesOf, tested}
+use Rattle.listing.specs.Lines.{startState, readLines}
+use Rattle.listing.specs.declared.Ended.{Ended}
+use Rattle.listing.specs.declared.ListingRead.{ListingRead}
+use Rattle.listing.specs.declared.ListingRead.the-variants.{Accepted, Invalid, Short, TooLong, Malformed, Misplaced, OutOfRange}
+
+-- document 01's number of each refusal, and 0 where the listing is accepted; with it the line, or the rounds that were read
+abbrev pub number : ListingRead → ℕ
+number (Accepted rounds) = 0
+number Invalid = 6
+number Short = 7
+number TooLong = 1
+number (Malformed line) = 2
+number (Misplaced line) = 3
+number (OutOfRange line) = 4
+
+abbrev pub value : ListingRead → ℕ
+value (Accepted rounds) = rounds
+value Invalid = 0
+value Short = 0
+value TooLong = 0
+value (Malformed line) = line
+value (Misplaced line) = line
+value (OutOfRange line) = line
+
+-- the most bytes of a listing
+abbrev pub longest : ℕ
+longest = 45056
+
+abbrev pub sizeOf : Model → Size
+sizeOf m = record { symbols = m .symbols; states = m .states }
+
+-- the lines of a listing read from the first on
+abbrev pub linesOf : Model → List ℕ → Ended
+linesOf m text = readLines (sizeOf m) 1 startState text
+
+-- by the number of the refusal
+unfoldable pub refusedAs : ℕ → ℕ → ListingRead
+refusedAs n line = pick (eqb n 2) (Malformed line) (pick (eqb n 3) (Misplaced line) (OutOfRange line))
+
+unfoldable pub answerOf : Ended → ListingRead
+answerOf r = pick (eqb (r .refusal) 0) (Accepted (r .state .rounds)) (refusedAs (r .refusal) (r .line))
+
+-- the first n cells as collected, the others as before
+unfoldable pub filled : ℕ → (collected before : List ℕ) → List ℕ
+filled zero xs ys = ys
+filled (suc n) xs ys = set (filled n xs ys) n (getD xs n 0)
+
+-- of a refused reading nothing is written
+unfoldable pub headsLeft : Model → Ended → List ℕ → List ℕ
+headsLeft m r hs = pick (eqb (r .refusal) 0) (filled (headsOf m) (r .state .headcells) hs) hs
+
+unfoldable pub triplesLeft : Model → Ended → List ℕ → List ℕ
+triplesLeft m r ts = pick (eqb (r .refusal) 0) (filled (triplesOf m) (r .state .triplecells) ts) ts
+
+-- the answer, and the two arrays afterwards: tests 6, 7, 1, then the lines
+pub record Reads (m : Model) (text heads triples headsAfter triplesAfter : List ℕ) (answer : ListingRead) : Type 0 where
+  pub answers : answer ≡ tested m heads triples Invalid Short (pick (ltb longest (length text)) TooLong (answerOf (linesOf m text)))
+  pub heads-left : headsAfter ≡ tested m heads triples heads heads (pick (ltb longest (length text)) heads (headsLeft m (linesOf m text) heads))
+  pub triples-left : triplesAfter ≡ tested m heads triples triples triples (pick (ltb longest (length text)) triples (triplesLeft m (linesOf m text) triples))
