@@ -1,6 +1,7 @@
 -- Laws of what is put, and of the listing.
 pub mod Bytes
 pub mod Whole
+pub mod Front
 pub mod Back
 pub mod Again
 pub mod Round

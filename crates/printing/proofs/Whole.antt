@@ -1,27 +1,28 @@
 -- The header and the whole listing as they are put, and what the public call answers in each case. Assumes nothing.
-use mathlib.Core.Path.{_≡_, ap, sym, _∙_}
+use mathlib.Core.Path.{_≡_}
 use mathlib.Core.Bool.{true, false}
 use mathlib.Core.List.{List, [], _∷_}
 use Prim.Native.Nat.{ℕ, zero, suc, _*_, _<_, _≤_}
-use native.Mathlib.Nat.{zero-add}
 use native.Mathlib.Omega.{arith}
 use lib.Dec.{eqb}
 use lib.ListN.{length, getD, length-append}
+use borrow.Author.Tests.{lt-ltb, le-ltb}
 use Rattle.text.specs.Split.{pick}
 use Rattle.product.specs.Table.{absent}
 use Rattle.product.proofs.Lists.{over-suc}
 use Rattle.line.specs.Line.{safe}
+use Rattle.table.specs.declared.Size.{Size}
 use Rattle.model.specs.declared.Model.{Model}
 use Rattle.model.specs.Valid.{valid}
 use Rattle.model.proofs.Valid.{valid-sizes}
-use Rattle.listing.specs.Tested.{headsOf, triplesOf}
-use Rattle.listing.specs.Reading.{sizeOf}
-use Rattle.listing.proofs.Tested.{tested-invalid, tested-heads, tested-triples, tested-well}
 use Rattle.printing.specs.declared.Kind.the-variants.{Head, Triple}
-use Rattle.printing.specs.declared.Written.the-variants.{Invalid, Short, Bytes}
+use Rattle.printing.specs.declared.Written.the-variants.{Invalid, Short, Bytes, Cut}
 use Rattle.printing.specs.Listing.{lineBytes, presentIn, cellsBytes, headerBytes, listingBytes}
-use Rattle.printing.specs.Writing.{Writes, Put, Whole, bytesOf}
-use Rattle.printing.proofs.Bytes.{then-put, line-short}
+use Rattle.printing.specs.Writing.{Writes, Rows, Whole, bytesOf}
+use Rattle.listing.proofs.Tested.{heads-few, triples-few}
+use Rattle.printing.proofs.Bytes.{line-short}
+use Rattle.print.specs.Put.{Put}
+use Rattle.print.proofs.Puts.{then-put, put-length}
 
 -- no more cells are present than there are
 pub present-few : (cells : List ℕ) (n : ℕ) → length (presentIn cells n) ≤ n
@@ -34,6 +35,26 @@ present-few cells (suc n) =
     one : (t : _) → length (pick t [] (n ∷ [])) ≤ 1
     one true = omega arith
     one false = omega arith
+
+-- the cells of a whole table
+module _ {size : Size} {hs ts : List ℕ} (w : Whole size hs ts) where
+  pub heads-rows : Rows size hs (size .states * size .symbols)
+  heads-rows =
+      record {
+        some-symbol = w .some-symbol;
+        some-state = w .some-state;
+        there = w .heads-there;
+        few = omega (arith, heads-few (size .symbols) (size .states) (w .symbols) (w .states));
+      }
+
+  pub triples-rows : Rows size ts (size .states * size .symbols * size .states)
+  triples-rows =
+      record {
+        some-symbol = w .some-symbol;
+        some-state = w .some-state;
+        there = w .triples-there;
+        few = triples-few (size .symbols) (size .states) (w .symbols) (w .states);
+      }
 
 module _ (G Q rounds : ℕ) (hs ts : List ℕ) where
   pub header-put : {o p : List ℕ} {a b h t : ℕ} → h ≡ length (presentIn hs (Q * G)) → t ≡ length (presentIn ts (Q * G * Q))
@@ -59,29 +80,35 @@ module _ (G Q rounds : ℕ) (hs ts : List ℕ) where
 -- the public call, case by case
 module _ (m : Model) (rounds : ℕ) (hs ts out : List ℕ) where
   pub invalid-writes : valid m ≡ false → Writes m rounds hs ts out out Invalid
-  invalid-writes v = record { answers = sym (tested-invalid m hs ts v _ _ _); leaves = sym (tested-invalid m hs ts v _ _ _) }
+  invalid-writes v = record { answers = rw v; leaves = rw v }
 
   module _ (v : valid m ≡ true) where
-    pub short-heads : length hs < headsOf m → Writes m rounds hs ts out out Short
-    short-heads h = record { answers = sym (tested-heads m hs ts v h _ _ _); leaves = sym (tested-heads m hs ts v h _ _ _) }
+    pub short-heads : length hs < m .states * m .symbols → Writes m rounds hs ts out out Short
+    short-heads h = record { answers = rw (v, lt-ltb _ _ h); leaves = rw (v, lt-ltb _ _ h) }
 
-    module _ (h : headsOf m ≤ length hs) where
-      pub short-triples : length ts < triplesOf m → Writes m rounds hs ts out out Short
-      short-triples t = record { answers = sym (tested-triples m hs ts v h t _ _ _); leaves = sym (tested-triples m hs ts v h t _ _ _) }
+    module _ (h : m .states * m .symbols ≤ length hs) where
+      pub short-triples : length ts < m .states * m .symbols * m .states → Writes m rounds hs ts out out Short
+      short-triples t = record { answers = rw (v, le-ltb _ _ h, lt-ltb _ _ t); leaves = rw (v, le-ltb _ _ h, lt-ltb _ _ t) }
 
-      module _ (t : triplesOf m ≤ length ts) where
-        pub whole : Whole (sizeOf m) hs ts
-        whole = let s = valid-sizes m (rw v tt) in record {
+      module _ (t : m .states * m .symbols * m .states ≤ length ts) where
+        pub whole : (size : Size) → size ≡ record { symbols = m .symbols; states = m .states } → Whole size hs ts
+        whole size e = let s = valid-sizes m (rw v tt) in rw e (record {
           some-symbol = s .some-symbol;
           symbols = s .symbols;
           some-state = s .some-state;
           states = s .states;
           heads-there = h;
           triples-there = t;
-        }
+        })
 
-        pub all-writes : {after : List ℕ} {n : ℕ} → Put out after 0 n (bytesOf m rounds hs ts) → Writes m rounds hs ts out after (Bytes n)
-        all-writes x = record {
-          answers = ap Bytes (x .place ∙ zero-add (length (bytesOf m rounds hs ts))) ∙ sym (tested-well m hs ts v h t _ _ _);
-          leaves = x .cells ∙ sym (tested-well m hs ts v h t _ _ _);
-        }
+        module _ {after : List ℕ} {n : ℕ} (x : Put out after 0 n (bytesOf m rounds hs ts)) where
+          pub all-writes : n ≤ length after → Writes m rounds hs ts out after (Bytes n)
+          all-writes l =
+              let e : length (bytesOf m rounds hs ts) ≡ n = omega (arith, x .place, put-length x) in
+              let k : length (bytesOf m rounds hs ts) ≤ length out = omega (arith, x .place, put-length x) in
+              record { answers = rw (v, le-ltb _ _ h, le-ltb _ _ t, le-ltb _ _ k, e); leaves = rw (v, le-ltb _ _ h, le-ltb _ _ t) (x .cells) }
+
+          pub cut-writes : length after < n → Writes m rounds hs ts out after Cut
+          cut-writes l =
+              let k : length out < length (bytesOf m rounds hs ts) = omega (arith, x .place, put-length x) in
+              record { answers = rw (v, le-ltb _ _ h, le-ltb _ _ t, lt-ltb _ _ k); leaves = rw (v, le-ltb _ _ h, le-ltb _ _ t) (x .cells) }

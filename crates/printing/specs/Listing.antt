@@ -1,19 +1,15 @@
 -- The bytes of a listing: a header, then a line for each head and each triple that is present, in cell order. Assumes nothing.
+unfoldable pub use Rattle.print.specs.Bytes.{lineBytes}
 use mathlib.Core.List.{List, [], _∷_, _++_}
 use Prim.Native.Nat.{ℕ, _*_, _/_, _%_}
 use lib.Dec.{eqb}
 use lib.ListN.{length, getD}
 use Rattle.text.specs.Split.{pick}
-use Rattle.text.specs.Digits.{decimal}
 use Rattle.product.specs.Lists.{upTo, over}
 use Rattle.product.specs.Table.{absent}
 use Rattle.line.specs.Line.{safe, head, erase}
 use Rattle.printing.specs.declared.Kind.{Kind}
 use Rattle.printing.specs.declared.Kind.the-variants.{Head, Triple}
-
--- a word, each number behind a tab, and a line feed
-unfoldable pub lineBytes : (word : List ℕ) → (numbers : List ℕ) → List ℕ
-lineBytes word numbers = word ++ over numbers (λ n. 9 ∷ decimal n) ++ 10 ∷ []
 
 abbrev pub word : Kind → List ℕ
 word Head = head

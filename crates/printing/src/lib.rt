@@ -1,13 +1,11 @@
 // Writes the listing of a table: `safe` with rounds and counts, then each head and each triple that is present, with its rank.
 ghost use mathlib.Core.Path.{_≡_};
-ghost use mathlib.Core.List.{List, [], _∷_, _++_};
-ghost use Prim.Native.Nat.{ℕ, _+_, _*_, _<_, _≤_};
+ghost use Prim.Native.Nat.{ℕ, _≤_};
 ghost use lib.ListN.{length};
-ghost use Rattle.product.specs.Lists.{over};
-ghost use Rattle.text.specs.Digits.{decimal};
-ghost use Rattle.printing.specs.Listing.{lineBytes, cellBytes, ifPresent, presentIn, cellsBytes, headerBytes, listingBytes};
+ghost use Rattle.print.specs.Put.{Put};
+ghost use Rattle.printing.specs.Listing.{cellBytes, ifPresent, presentIn, cellsBytes, headerBytes, listingBytes};
 ghost use Rattle.printing.specs.declared.Kind.the-variants.{Head, Triple};
-ghost use Rattle.printing.specs.Writing.{Writes, Put, Cell, Rows, Whole};
+ghost use Rattle.printing.specs.Writing.{Writes, Cell, Rows, Whole};
 use model::Model;
 use table::ABSENT;
 use table::Size;
@@ -18,73 +16,12 @@ pub enum Kind {
     Triple,
 }
 
-// How many bytes the whole listing has, also where `out` has not room for all; or why there is none.
+// How many bytes the whole listing has; that `out` has not room for all of them; or why there is none.
 pub enum Written {
     Invalid,
     Short,
     Bytes(usize),
-}
-
-// Puts one byte, where there is room, and answers the place behind it.
-fn put(out: &mut [u8], at: usize, b: u8) -> usize
-    requires { ⌜ at ≤ 100000 ⌝ }
-    ensures { λ r. ⌜ Put (now (out .entry)) (now (out .exit)) at r (b ∷ []) ⌝ }
-{
-    if out.len() <= at {
-        return at + 1;
-    }
-    out[at] = b;
-    at + 1
-}
-
-// Puts a word or the digits of a number.
-fn put_all(out: &mut [u8], at: usize, s: &[u8]) -> usize
-    requires { ⌜ (at ≤ 90000) × (length (now s) ≤ 5) ⌝ }
-    ensures { λ r. ⌜ Put (now (out .entry)) (now (out .exit)) at r (now (s .entry)) ⌝ }
-{
-    let mut next = at;
-    let mut i: usize = 0;
-    while i < s.len() {
-        next = put(out, next, s[i]);
-        i += 1;
-    }
-    next
-}
-
-// Puts a tab and a number.
-fn put_field(out: &mut [u8], at: usize, n: u16) -> usize
-    requires { ⌜ at ≤ 80000 ⌝ }
-    ensures { λ r. ⌜ Put (now (out .entry)) (now (out .exit)) at r (9 ∷ decimal n) ⌝ }
-{
-    let next = put(out, at, b'\t');
-    let d = text::write_number(n);
-    let digits = d.at;
-    let count = d.count;
-    put_all(out, next, &digits[..count])
-}
-
-// Puts the fields of a line.
-fn put_fields(out: &mut [u8], at: usize, numbers: &[u16]) -> usize
-    requires { ⌜ (at ≤ 75000) × (length (now numbers) ≤ 4) ⌝ }
-    ensures { λ r. ⌜ Put (now (out .entry)) (now (out .exit)) at r (over (now (numbers .entry)) (λ n. 9 ∷ decimal n)) ⌝ }
-{
-    let mut next = at;
-    let mut i: usize = 0;
-    while i < numbers.len() {
-        next = put_field(out, next, numbers[i]);
-        i += 1;
-    }
-    next
-}
-
-// Puts a whole line.
-fn put_line(out: &mut [u8], at: usize, word: &[u8], numbers: &[u16]) -> usize
-    requires { ⌜ (at ≤ 70000) × (length (now word) ≤ 5) × (length (now numbers) ≤ 4) ⌝ }
-    ensures { λ r. ⌜ Put (now (out .entry)) (now (out .exit)) at r (lineBytes (now (word .entry)) (now (numbers .entry))) ⌝ }
-{
-    let fields = put_all(out, at, word);
-    let end = put_fields(out, fields, numbers);
-    put(out, end, b'\n')
+    Cut,
 }
 
 // How many of the first n cells are present.
@@ -105,33 +42,33 @@ fn count(cells: &[u16], n: usize) -> u16
 
 // Puts the line of the head whose cell is i.
 fn put_head(out: &mut [u8], at: usize, size: Size, i: usize, rank: u16) -> usize
-    requires { ⌜ Cell size i at ⌝ }
+    requires { ⌜ Cell size i ⌝ }
     ensures { λ r. ⌜ Put (now (out .entry)) (now (out .exit)) at r (cellBytes Head (size .symbols) (size .states) i rank) ⌝ }
 {
     let g = size.symbols as usize;
     let row = [(i / g) as u16, (i % g) as u16, rank];
-    put_line(out, at, b"head", &row)
+    print::put_line(out, at, b"head", &row)
 }
 
 // Puts the line of the triple whose cell is i.
 fn put_triple(out: &mut [u8], at: usize, size: Size, i: usize, rank: u16) -> usize
-    requires { ⌜ Cell size i at ⌝ }
+    requires { ⌜ Cell size i ⌝ }
     ensures { λ r. ⌜ Put (now (out .entry)) (now (out .exit)) at r (cellBytes Triple (size .symbols) (size .states) i rank) ⌝ }
 {
     let g = size.symbols as usize;
     let q = size.states as usize;
     let h = i / q;
     let row = [(h / g) as u16, (h % g) as u16, (i % q) as u16, rank];
-    put_line(out, at, b"erase", &row)
+    print::put_line(out, at, b"erase", &row)
 }
 
 // Puts the line of cell i, if it is present.
 fn put_fact(out: &mut [u8], at: usize, kind: Kind, size: Size, i: usize, rank: u16) -> usize
-    requires { ⌜ Cell size i at ⌝ }
+    requires { ⌜ Cell size i ⌝ }
     ensures { λ r. ⌜ Put (now (out .entry)) (now (out .exit)) at r (ifPresent kind (size .symbols) (size .states) i rank) ⌝ }
 {
     if rank == ABSENT {
-        return at;
+        return print::place(out.len(), at);
     }
     match kind {
         Kind::Head => put_head(out, at, size, i, rank),
@@ -141,10 +78,10 @@ fn put_fact(out: &mut [u8], at: usize, kind: Kind, size: Size, i: usize, rank: u
 
 // Puts the lines of those, of the first n cells, that are present.
 fn put_cells(out: &mut [u8], at: usize, kind: Kind, size: Size, cells: &[u16], n: usize) -> usize
-    requires { ⌜ Rows size (now cells) n at ⌝ }
+    requires { ⌜ Rows size (now cells) n ⌝ }
     ensures { λ r. ⌜ Put (now (out .entry)) (now (out .exit)) at r (cellsBytes kind (size .symbols) (size .states) (now (cells .entry)) n) ⌝ }
 {
-    let mut next = at;
+    let mut next = print::place(out.len(), at);
     let mut i: usize = 0;
     while i < n {
         next = put_fact(out, next, kind, size, i, cells[i]);
@@ -161,7 +98,7 @@ fn put_header(out: &mut [u8], size: Size, rounds: u16, heads: &[u16], triples: &
     let h = (size.states as usize) * (size.symbols as usize);
     let t = h * (size.states as usize);
     let row = [rounds, count(heads, h), count(triples, t)];
-    put_line(out, 0, b"safe", &row)
+    print::put_line(out, 0, b"safe", &row)
 }
 
 // Puts the whole listing.
@@ -202,5 +139,8 @@ pub fn write_listing(
         return Written::Short;
     }
     let n = put_listing(out, size, rounds, heads, triples);
+    if out.len() < n {
+        return Written::Cut;
+    }
     Written::Bytes(n)
 }

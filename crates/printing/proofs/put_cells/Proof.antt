@@ -1,23 +1,26 @@
 -- `printing::put_cells` meets its contract. Assumes nothing.
 use mathlib.Core.Path.{_≡_}
-use lib.ListN.{getD}
-use Prim.Native.Nat.{_+_, _*_, _-_, _≤_, _<_}
+use Prim.Native.Nat.{_-_, _≤_}
+use Rattle.print.specs.Put.{Put}
+use Rattle.print.proofs.Puts.{none-put, then-put, as-put, put-length}
 use Rattle.printing.specs.Listing.{cellsBytes}
-use Rattle.printing.specs.Writing.{Put}
-use Rattle.printing.proofs.Bytes.{none-put, then-put, as-put, cells-none, cells-more, fact-short, put-length}
+use Rattle.printing.proofs.Bytes.{cells-none, cells-more}
 use borrow.Author.Needs.{needs}
 use native.Mathlib.Omega.{arith}
 use Rattle.printing.proofs.put_cells.Statement.{statement}
 use Rattle.printing.proofs.put_cells.Tie as tie
 
 abbrev Inv-loop : tie.InvT-loop
-Inv-loop out₀ at kind size cells n next₀ i₀ out next i = (i ≤ n) × (next ≤ at + 30 * i) × Put out₀ out at next (cellsBytes kind (size .symbols) (size .states) cells i)
+Inv-loop out₀ at kind size cells n next₀ i₀ out next i = (i ≤ n) × Put out₀ out at next (cellsBytes kind (size .symbols) (size .states) cells i)
 
 abbrev μ-loop : tie.MeasureT-loop
 μ-loop out₀ at kind size cells n next₀ i₀ out next i = n - i
 
+place-requires : tie.Need-place-requires Inv-loop μ-loop
+place-requires c κs = search needs
+
 loop-holds : tie.Need-loop-holds Inv-loop μ-loop
-loop-holds c = (search needs, search needs, as-put (cells-none _ _ _ _) (none-put _ _))
+loop-holds c = (search needs, as-put (cells-none _ _ _ _) (none-put _ _ (c .place .ensures)))
 
 mul-put-fact : tie.Need-mul-put-fact Inv-loop μ-loop
 mul-put-fact c = search needs
@@ -35,22 +38,13 @@ loop-less : tie.Need-loop-less Inv-loop μ-loop
 loop-less c = search needs
 
 loop-again : tie.Need-loop-again Inv-loop μ-loop
-loop-again c =
-    let l = c .before .before .before .before .before .before .loop in
-    let a = c .before .before .before .before .before .before .before .before .before .args in
-    let p = a .cells .now in
-    let f = c .before .before .put-fact .ensures in
-    let h : getD p (l .i) 0 < 65536 = omega (arith, c .before .before .before .shared-slice-known2 .given (l .i)) in (
-      search needs,
-      omega (arith, f .place, fact-short (a .kind) (a .size .symbols) (a .size .states) (l .i) (getD p (l .i) 0) (omega arith) h),
-      as-put (cells-more (a .kind) (a .size .symbols) (a .size .states) p (l .i)) (then-put (l .inv .2) f),
-    )
+loop-again c = let a = c .before .before .before .before .before .before .before .before .before .before .args in (search needs, as-put (cells-more (a .kind) (a .size .symbols) (a .size .states) (a .cells .now) (c .before .before .before .before .before .before .loop .i)) (then-put (c .before .before .before .before .before .before .loop .inv .1) (c .before .before .put-fact .ensures)))
 
 same-length : tie.Need-same-length Inv-loop μ-loop
-same-length c = put-length (c .before .loop .inv .2)
+same-length c = put-length (c .before .loop .inv .1)
 
 returns : tie.Need-returns Inv-loop μ-loop
-returns c = let e : c .before .loop .i ≡ c .before .before .before .before .args .n = omega arith in rw e at (c .before .loop .inv .2)
+returns c = let e : c .before .loop .i ≡ c .before .before .before .before .before .args .n = omega arith in rw e at (c .before .loop .inv .1)
 
 pub put-cells-spec : {M : Type 1} → statement M
 put-cells-spec =
@@ -58,6 +52,7 @@ put-cells-spec =
     (tie.spec
     Inv-loop
     μ-loop
+    place-requires
     loop-holds
     mul-put-fact
     shared-slice-read-put-fact

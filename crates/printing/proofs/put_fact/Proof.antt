@@ -4,8 +4,11 @@ use borrow.Author.Needs.{needs}
 use Rattle.printing.proofs.put_fact.Statement.{statement}
 use Rattle.printing.proofs.put_fact.Tie as tie
 
+place-requires : tie.Need-place-requires
+place-requires c κs = search needs
+
 returns : tie.Need-returns
-returns c = absent-put _ _ (c .before .before .args .kind) (c .before .before .args .size .symbols) (c .before .before .args .size .states) (c .before .before .args .i) (c .before .before .args .rank) (c .if1 .taken)
+returns c = let a = c .before .before .before .args in absent-put _ _ (a .kind) (a .size .symbols) (a .size .states) (a .i) (a .rank) (c .before .if1 .taken) (c .place .ensures)
 
 enum-told : tie.Need-enum-told
 enum-told c = search needs
@@ -23,18 +26,19 @@ same-length : tie.Need-same-length
 same-length c = search needs
 
 returns-2 : tie.Need-returns-2
-returns-2 c = fact-put (c .before .before .before .before .before .before .before .before .args .size .symbols) (c .before .before .before .before .before .before .before .before .args .size .states) (c .before .before .before .before .before .before .before .before .args .i) (c .before .before .before .before .before .before .before .before .args .rank) (c .before .before .before .before .enum-told .given .1) (c .before .before .before .before .before .before .if1 .left) (c .before .before .put-head .ensures)
+returns-2 c = let a = c .before .before .before .before .before .before .before .before .args in fact-put (a .size .symbols) (a .size .states) (a .i) (a .rank) (c .before .before .before .before .enum-told .given .1) (c .before .before .before .before .before .before .if1 .left) (c .before .before .put-head .ensures)
 
 same-length-2 : tie.Need-same-length-2
 same-length-2 c = search needs
 
 returns-3 : tie.Need-returns-3
-returns-3 c = fact-put (c .before .before .before .before .before .before .before .before .args .size .symbols) (c .before .before .before .before .before .before .before .before .args .size .states) (c .before .before .before .before .before .before .before .before .args .i) (c .before .before .before .before .before .before .before .before .args .rank) (c .before .before .before .before .enum-told2 .given .1) (c .before .before .before .before .before .before .if1 .left) (c .before .before .put-triple .ensures)
+returns-3 c = let a = c .before .before .before .before .before .before .before .before .args in fact-put (a .size .symbols) (a .size .states) (a .i) (a .rank) (c .before .before .before .before .enum-told2 .given .1) (c .before .before .before .before .before .before .if1 .left) (c .before .before .put-triple .ensures)
 
 pub put-fact-spec : {M : Type 1} → statement M
 put-fact-spec =
     tie.close
     (tie.spec
+    place-requires
     returns
     enum-told
     put-head-requires

@@ -1,8 +1,9 @@
--- `printing::put` meets its contract. Assumes nothing.
-use Rattle.printing.proofs.Bytes.{byte-put, byte-past}
+-- `print::put` meets its contract. Assumes nothing.
+use Rattle.print.proofs.Puts.{byte-put, byte-past}
+use native.Mathlib.Omega.{arith}
 use borrow.Author.Needs.{needs}
-use Rattle.printing.proofs.put.Statement.{statement}
-use Rattle.printing.proofs.put.Tie as tie
+use Rattle.print.proofs.put.Statement.{statement}
+use Rattle.print.proofs.put.Tie as tie
 
 add-result : tie.Need-add-result
 add-result c = search needs
@@ -20,7 +21,7 @@ same-length : tie.Need-same-length
 same-length c = search needs
 
 returns-2 : tie.Need-returns-2
-returns-2 c = byte-put _ _ _
+returns-2 c = byte-put _ _ _ (omega arith)
 
 pub put-spec : {M : Type 1} → statement M
 put-spec =

@@ -1,0 +1,2 @@
+-- Laws of what is put.
+pub mod Puts

@@ -1,0 +1,4 @@
+-- Laws of the output.
+pub mod Steps
+pub mod Reading
+pub mod Answer

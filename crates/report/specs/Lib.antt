@@ -1,0 +1,4 @@
+-- What `pdcheck` prints, as bytes. Assumes nothing.
+pub mod Words
+pub mod Output
+pub mod Ready
