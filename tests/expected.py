@@ -62,6 +62,7 @@ def calls():
     yield from ((data, 99999, 4096, 0) for data in sharp)
     yield from ((data, budget, 8, 0) for data in (a, b) for budget in range(6))
     yield from ((a, 24, room, 0) for room in (0, 1, 2, 3))
+    yield (vector("check-start-state-final"), 0, 0, 0)  # an empty trace fits a room of 0
     yield from ((data, 24, 8, short) for data in (a, b) for short in SHORT)
     yield (b"", 24, 8, 0)  # no model is read: the empty record is refusal 6
     yield from ((last, 99999, room, 0) for room in (4096, 8192, 8193, 8194))
