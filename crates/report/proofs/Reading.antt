@@ -40,7 +40,7 @@ numbered-line k n = go (eqb k 2) (eqb k 3) (eqb k 4)
     go false false true = refl
     go false false false = refl
 
-lines-few : (s : List ℕ) → length (later 10 s) ≤ length s
+pub lines-few : (s : List ℕ) → length (later 10 s) ≤ length s
 unfolding later
 lines-few [] = omega arith
 lines-few (b ∷ s) = go (lines-few s) (eqb b 10)

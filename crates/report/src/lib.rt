@@ -1,6 +1,6 @@
 // What `pdcheck` prints, from the text that it reads: the refusal of the text, the trace of a violation, or the listing of a safe table.
 ghost use mathlib.Core.Path.{_≡_};
-ghost use Prim.Native.Nat.{ℕ, _≤_, _<_};
+ghost use Prim.Native.Nat.{ℕ};
 ghost use lib.Dec.{T};
 ghost use lib.ListN.{length};
 ghost use Rattle.product.specs.Verdict.{bound};
@@ -20,11 +20,10 @@ use trace::Traced;
 const ROOM: usize = 4096;
 
 // Puts the line of a refused reading.
-fn put_refused(out: &mut [u8], number: u16, line: usize) -> usize
-    requires { ⌜ line < 65536 ⌝ }
+pub fn put_refused(out: &mut [u8], number: u16, line: u16) -> usize
     ensures { λ r. ⌜ Put (now (out .entry)) (now (out .exit)) 0 r (refusedBytes number line) ⌝ }
 {
-    let row = [number, line as u16];
+    let row = [number, line];
     print::put_line(out, 0, b"refused", &row)
 }
 
@@ -168,9 +167,9 @@ pub fn check_text(text: &[u8], out: &mut [u8]) -> usize
     match reading {
         Reading::Accepted => put_model(out, m),
         Reading::TooLong => put_refused(out, 1, 0),
-        Reading::Malformed(line) => put_refused(out, 2, line),
-        Reading::Misplaced(line) => put_refused(out, 3, line),
-        Reading::OutOfRange(line) => put_refused(out, 4, line),
-        Reading::TooMany(line) => put_refused(out, 5, line),
+        Reading::Malformed(line) => put_refused(out, 2, line as u16),
+        Reading::Misplaced(line) => put_refused(out, 3, line as u16),
+        Reading::OutOfRange(line) => put_refused(out, 4, line as u16),
+        Reading::TooMany(line) => put_refused(out, 5, line as u16),
     }
 }

@@ -1,6 +1,7 @@
 -- `report::check_text` meets its contract. Assumes nothing.
 use mathlib.Core.Path.{refl}
 use Rattle.report.proofs.Reading.{line-fits, model-valid, read-put}
+use native.Mathlib.Omega.{arith}
 use borrow.Author.Needs.{needs}
 use Rattle.report.proofs.check_text.Statement.{statement}
 use Rattle.report.proofs.check_text.Tie as tie
@@ -23,26 +24,38 @@ put-refused-requires c κs = search needs
 enum-known-reading : tie.Need-enum-known-reading
 enum-known-reading c = search needs
 
+cast-put-refused : tie.Need-cast-put-refused
+cast-put-refused c = omega (arith, line-fits (c .before .before .before .before .before .before .before .before .args .text .now) (c .before .before .before .before .before .read-model .ensures) (c .before .before .reading .given .1))
+
 put-refused-requires-2 : tie.Need-put-refused-requires-2
-put-refused-requires-2 c κs = line-fits (c .before .before .before .before .before .before .before .before .args .text .now) (c .before .before .before .before .before .read-model .ensures) (c .before .before .reading .given .1)
+put-refused-requires-2 c κs = search needs
 
 enum-known-reading-2 : tie.Need-enum-known-reading-2
 enum-known-reading-2 c = search needs
 
+cast-put-refused-2 : tie.Need-cast-put-refused-2
+cast-put-refused-2 c = omega (arith, line-fits (c .before .before .before .before .before .before .before .before .args .text .now) (c .before .before .before .before .before .read-model .ensures) (c .before .before .reading2 .given .1))
+
 put-refused-requires-3 : tie.Need-put-refused-requires-3
-put-refused-requires-3 c κs = line-fits (c .before .before .before .before .before .before .before .before .args .text .now) (c .before .before .before .before .before .read-model .ensures) (c .before .before .reading2 .given .1)
+put-refused-requires-3 c κs = search needs
 
 enum-known-reading-3 : tie.Need-enum-known-reading-3
 enum-known-reading-3 c = search needs
 
+cast-put-refused-3 : tie.Need-cast-put-refused-3
+cast-put-refused-3 c = omega (arith, line-fits (c .before .before .before .before .before .before .before .before .args .text .now) (c .before .before .before .before .before .read-model .ensures) (c .before .before .reading3 .given .1))
+
 put-refused-requires-4 : tie.Need-put-refused-requires-4
-put-refused-requires-4 c κs = line-fits (c .before .before .before .before .before .before .before .before .args .text .now) (c .before .before .before .before .before .read-model .ensures) (c .before .before .reading3 .given .1)
+put-refused-requires-4 c κs = search needs
 
 enum-known-reading-4 : tie.Need-enum-known-reading-4
 enum-known-reading-4 c = search needs
 
+cast-put-refused-4 : tie.Need-cast-put-refused-4
+cast-put-refused-4 c = omega (arith, line-fits (c .before .before .before .before .before .before .before .before .args .text .now) (c .before .before .before .before .before .read-model .ensures) (c .before .before .reading4 .given .1))
+
 put-refused-requires-5 : tie.Need-put-refused-requires-5
-put-refused-requires-5 c κs = line-fits (c .before .before .before .before .before .before .before .before .args .text .now) (c .before .before .before .before .before .read-model .ensures) (c .before .before .reading4 .given .1)
+put-refused-requires-5 c κs = search needs
 
 same-length : tie.Need-same-length
 same-length c = search needs
@@ -90,12 +103,16 @@ check-text-spec =
     enum-told-2
     put-refused-requires
     enum-known-reading
+    cast-put-refused
     put-refused-requires-2
     enum-known-reading-2
+    cast-put-refused-2
     put-refused-requires-3
     enum-known-reading-3
+    cast-put-refused-3
     put-refused-requires-4
     enum-known-reading-4
+    cast-put-refused-4
     put-refused-requires-5
     same-length
     returns

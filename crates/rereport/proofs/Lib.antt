@@ -1,0 +1,3 @@
+-- Laws of the output.
+pub mod Small
+pub mod Cases

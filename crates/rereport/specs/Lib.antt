@@ -1,0 +1,2 @@
+-- What `pdrecheck` prints, as bytes. Assumes nothing.
+pub mod Output
