@@ -579,7 +579,24 @@ def last_sharp_case():
     return draft
 
 
+def deepest():
+    """The deepest violation we know of: 1,688 rounds, so the trace is found by as many calls, one inside the other.
+
+    A ring of thirty symbols goes round the seven states that are not final, and that once for each end state: what is
+    behind the ring calls it again, and the symbol left below moves the end one state on. Seven ends are not final.
+    """
+    draft = Draft(32, 8, 5)
+    draft.finals = [7]
+    draft.events = [(i, 1) for i in range(29)] + [(29, 2), (31, 3), (30, 4)]
+    draft.rules = [("exit", 31), ("exit", 30), ("call", 30, 0, 31)]
+    draft.rules += [("direct", i, (i + 1) % 30) for i in range(30)] + [("direct", 29, 30)]
+    draft.moves = [(s, 1, s) for s in range(7)] + [(s, 2, (s + 1) % 7) for s in range(7)]
+    draft.moves += [(s, 3, s + 1) for s in range(7)] + [(0, 4, 0)]
+    return draft
+
+
 def long_traces():
+    yield "deepest-violation", deepest().text()
     yield "cut-8193-steps", last_sharp_case().text()
     for steps in (4095, 4096, 4097):
         yield "trace-of-%d-steps" % steps, doubling(steps).text()
