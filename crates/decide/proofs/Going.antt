@@ -23,7 +23,8 @@ use Rattle.table.proofs.LaidOut.{heads-laid, triples-laid}
 use Rattle.model.specs.declared.Model.{Model}
 use Rattle.model.specs.Model.{productOf}
 use Rattle.model.proofs.Valid.{product-in, valid-sizes}
-use Rattle.rounds.specs.Round.{Arrays, arrays, tableOf, Long, sizeOf, startOf, roundOf}
+use Rattle.ways.specs.Taken.{Arrays, arrays, tableOf}
+use Rattle.rounds.specs.Round.{Long, sizeOf, startOf, roundOf}
 use Rattle.rounds.proofs.InPlace.{Became, became-same, became-long, became-then, became-round, became-start}
 use Rattle.decide.specs.declared.Decision.{Decision}
 use Rattle.decide.specs.declared.Decision.the-variants.{Violation, Safe, Spent}

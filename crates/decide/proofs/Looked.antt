@@ -26,7 +26,8 @@ use Rattle.model.specs.declared.Model.{Model}
 use Rattle.model.specs.Model.{final, productOf}
 use Rattle.model.specs.Valid.{valid}
 use Rattle.model.proofs.Valid.{all-below, product-in, valid-sizes}
-use Rattle.rounds.specs.Round.{arrays, tableOf, sizeOf}
+use Rattle.ways.specs.Taken.{arrays, tableOf}
+use Rattle.rounds.specs.Round.{sizeOf}
 use Rattle.decide.specs.Look.{rowFree, stateClean, headsClean, endClean, endsClean, clean, without, quiet}
 
 not-of : (b : Bool) → (T b → ⊥) → T (not b)

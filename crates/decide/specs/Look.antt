@@ -13,7 +13,8 @@ use Rattle.table.specs.Cells.{headIn, tripleIn, headsOf, triplesOf}
 use Rattle.model.specs.declared.Model.{Model}
 use Rattle.model.specs.Model.{productOf}
 use Rattle.model.specs.Valid.{valid}
-use Rattle.rounds.specs.Round.{arrays, sizeOf, Long}
+use Rattle.ways.specs.Taken.{arrays}
+use Rattle.rounds.specs.Round.{sizeOf, Long}
 use Rattle.decide.specs.declared.Decision.{Decision}
 use Rattle.decide.specs.Decided.{meaning, within, headCount, tripleCount}
 

@@ -4,7 +4,8 @@ ghost use mathlib.Core.Path.{_≡_};
 ghost use Prim.Native.Nat.{_≤_};
 ghost use lib.ListN.{length, getD};
 ghost use Rattle.decide.specs.Look.{rowFree, stateClean, headsClean, endClean, endsClean, clean, without, quiet};
-ghost use Rattle.rounds.specs.Round.{arrays, Long};
+ghost use Rattle.ways.specs.Taken.{arrays};
+ghost use Rattle.rounds.specs.Round.{Long};
 use table::Size;
 
 // The state is final.

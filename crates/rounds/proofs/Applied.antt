@@ -15,7 +15,7 @@ use Rattle.product.specs.Table.{Table, absent, ranks}
 use Rattle.product.proofs.Rounds.{same-eq}
 use Rattle.product.proofs.Ranks.{ranks-rank, ranks-absent}
 use Rattle.table.specs.Cells.{store}
-use Rattle.rounds.specs.Round.{lower}
+use Rattle.ways.specs.Taken.{lower}
 
 -- a way in round k: if all that it needs was held before, and its fact is absent, the fact is stored with rank k
 abbrev pub apply : ℕ → Way → Table → Table

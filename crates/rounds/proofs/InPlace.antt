@@ -22,7 +22,8 @@ use Rattle.model.specs.Model.{productOf}
 use Rattle.model.specs.Valid.{valid}
 use Rattle.model.proofs.Valid.{product-in}
 use Rattle.model.proofs.Bounds.{start-state-in, start-symbol-in}
-use Rattle.rounds.specs.Round.{Arrays, tableOf, Long, put, lower, taken, allTaken, sizeOf, roundOf, startOf}
+use Rattle.ways.specs.Taken.{Arrays, tableOf, put, lower, taken, allTaken}
+use Rattle.rounds.specs.Round.{Long, sizeOf, roundOf, startOf}
 use Rattle.rounds.proofs.Applied.{apply, applyAll, ranks-next}
 
 -- the arrays became d: they hold the table t, are as long as before, and the same past the table

@@ -1,55 +1,22 @@
--- A round over the two lent arrays: each way of the product, one after another, gives its fact the round's number. Assumes nothing.
-use mathlib.Core.Bool.{Bool, cond}
-use mathlib.Core.List.{List, [], _∷_}
+-- A round over the two lent arrays: every way of the product is taken, in the product's order. Assumes nothing.
+use mathlib.Core.Bool.{Bool}
+use mathlib.Core.List.{List, []}
 use mathlib.Core.Option.{Option, none, some}
 use Prim.Native.Nat.{ℕ, _*_, _≤_}
-use lib.Dec.{eqb, ltb}
 use lib.ListN.{length}
-use Rattle.product.specs.Lists.{upTo, over, all}
+use Rattle.product.specs.Lists.{upTo, over}
 use Rattle.product.specs.Product.{Rule, Step}
-use Rattle.product.specs.Facts.{Fact, head, triple, first, Way, needs, consequences, ways}
-use Rattle.product.specs.Table.{Table, absent}
+use Rattle.product.specs.Facts.{first, Way, consequences, ways}
 use Rattle.table.specs.declared.Size.{Size}
-use Rattle.table.specs.Cells.{view, putHead, putTriple, cleared}
+use Rattle.table.specs.Cells.{cleared}
 use Rattle.model.specs.declared.Model.{Model}
 use Rattle.model.specs.Model.{ruleAt, nextAt, productOf}
-
--- the array of heads and the array of triples
-abbrev pub Arrays : Type 0
-Arrays = List ℕ × List ℕ
-
-abbrev pub arrays : (heads triples : List ℕ) → Arrays
-arrays hs ts = (hs, ts)
-
-abbrev pub tableOf : Size → Arrays → Table
-tableOf z c = view (z .symbols) (z .states) (c .0) (c .1)
+use Rattle.ways.specs.Taken.{Arrays, put, allTaken}
 
 -- the arrays are long enough for the table
 pub record Long (z : Size) (c : Arrays) : Type 0 where
   pub heads : z .states * z .symbols ≤ length (c .0)
   pub triples : z .states * z .symbols * z .states ≤ length (c .1)
-
--- a fact with another rank
-abbrev pub put : Size → Fact → ℕ → Arrays → Arrays
-put z (head q g) k c = (putHead (z .symbols) (z .states) (c .0) q g k, c .1)
-put z (triple q g e) k c = (c .0, putTriple (z .symbols) (z .states) (c .1) q g e k)
-
--- a fact that is absent gets the rank k
-abbrev pub gained : Size → Fact → ℕ → Arrays → Arrays
-gained z f k c = cond (eqb (tableOf z c f) absent) (put z f k c) c
-
--- the fact was held before round k: one that the round itself adds has rank k, and is not used in it
-abbrev pub lower : ℕ → Table → Fact → Bool
-lower k t f = ltb (t f) k
-
--- a way in round k: if all that it needs was held before, its fact is gained
-unfoldable pub taken : Size → ℕ → Way → Arrays → Arrays
-taken z k w c = cond (all (lower k (tableOf z c)) (needs w)) (gained z (w .gives) k c) c
-
-unfoldable pub allTaken : Size → ℕ → List Way → Arrays → Arrays
-unfolding taken
-allTaken z k [] c = c
-allTaken z k (w ∷ ws) c = allTaken z k ws (taken z k w c)
 
 abbrev pub sizeOf : Model → Size
 sizeOf m = record { symbols = m .symbols; states = m .states }

@@ -1,12 +1,11 @@
 // One round over the two lent arrays, in which the facts held before it, those of lower rank, give new ones.
 ghost use mathlib.Core.Path.{_≡_};
 ghost use Prim.Native.Nat.{_*_};
-ghost use Rattle.rounds.specs.Round.{arrays, allTaken, startOf, roundOf, stepWays, pairWays, ruleWays};
+ghost use Rattle.ways.specs.Taken.{arrays, allTaken};
+ghost use Rattle.rounds.specs.Round.{startOf, roundOf, stepWays, pairWays, ruleWays};
 use model::Model;
 use model::Next;
 use table::Size;
-
-mod ways; // what one step gives
 
 // Rule r and move v from state q.
 fn step<'a>(

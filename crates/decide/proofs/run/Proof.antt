@@ -5,7 +5,7 @@ use Prim.Native.Nat.{_≤_, _-_}
 use native.Mathlib.Omega.{arith}
 use lib.ListN.{length}
 use borrow.Author.Needs.{needs}
-use Rattle.rounds.specs.Round.{arrays}
+use Rattle.ways.specs.Taken.{arrays}
 use Rattle.decide.proofs.Going.{Going, from-start, violates, is-safe, is-spent, room, next}
 use Rattle.decide.proofs.run.Statement.{statement}
 use Rattle.decide.proofs.run.Tie as tie

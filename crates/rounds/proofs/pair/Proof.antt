@@ -5,8 +5,9 @@ use native.Mathlib.Omega.{arith}
 use lib.ListN.{length}
 use borrow.Author.Needs.{needs}
 use Rattle.product.specs.Lists.{upTo, over}
-use Rattle.rounds.proofs.Taken.{begins, turn, ended}
-use Rattle.rounds.specs.Round.{arrays, allTaken, stepWays}
+use Rattle.ways.proofs.Taken.{begins, turn, ended}
+use Rattle.ways.specs.Taken.{arrays, allTaken}
+use Rattle.rounds.specs.Round.{stepWays}
 use Rattle.rounds.proofs.pair.Statement.{statement}
 use Rattle.rounds.proofs.pair.Tie as tie
 

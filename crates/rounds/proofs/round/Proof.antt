@@ -6,8 +6,9 @@ use lib.ListN.{length}
 use borrow.Author.Needs.{needs}
 use Rattle.product.specs.Lists.{upTo, over}
 use Rattle.rounds.proofs.Rows.{rows-ways}
-use Rattle.rounds.proofs.Taken.{begins, turn, ended}
-use Rattle.rounds.specs.Round.{arrays, sizeOf, allTaken, ruleWays}
+use Rattle.ways.proofs.Taken.{begins, turn, ended}
+use Rattle.ways.specs.Taken.{arrays, allTaken}
+use Rattle.rounds.specs.Round.{sizeOf, ruleWays}
 use Rattle.rounds.proofs.round.Statement.{statement}
 use Rattle.rounds.proofs.round.Tie as tie
 

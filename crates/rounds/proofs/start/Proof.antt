@@ -1,6 +1,6 @@
 -- `rounds::start` meets its contract. Assumes nothing.
 use borrow.Author.Needs.{needs}
-use Rattle.rounds.proofs.Taken.{started}
+use Rattle.rounds.proofs.Steps.{started}
 use Rattle.rounds.proofs.start.Statement.{statement}
 use Rattle.rounds.proofs.start.Tie as tie
 
