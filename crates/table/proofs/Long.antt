@@ -1,8 +1,7 @@
 -- When arrays are long enough: by the counts that the code made, and as the two inequalities. Assumes nothing.
-use mathlib.Core.Bool.{_&&_}
 use mathlib.Core.Logic.{_↔_}
 use mathlib.Core.Path.{_≡_}
-use Prim.Native.Nat.{ℕ, _*_, _<_, _≤_}
+use Prim.Native.Nat.{ℕ, _<_, _≤_}
 use native.Mathlib.Omega.{arith}
 use lib.Dec.{T, leb, leb→le, le→leb}
 use borrow.Author.Tests.{le-leb, lt-leb}

@@ -4,7 +4,7 @@ use mathlib.Core.List.{List}
 use mathlib.Core.Path.{_≡_, refl, sym, ap, _∙_}
 use Prim.Native.Nat.{ℕ, _+_, _*_, _<_, _≤_}
 use native.Mathlib.Omega.{arith}
-use lib.Dec.{T, ltb, ltb→lt}
+use lib.Dec.{ltb, ltb→lt}
 use lib.ListN.{length, getD, set, List·getD-eq-default}
 use lib.Seq.{set-out}
 use borrow.Author.Tests.{lt-ltb, le-ltb}
@@ -12,7 +12,7 @@ use Rattle.product.specs.Table.{absent}
 use Rattle.product.proofs.Lists.{and-left, and-right}
 use Rattle.table.specs.declared.Place.{Place}
 use Rattle.table.specs.declared.Place.the-variants.{Outside, Cell}
-use Rattle.table.specs.Cells.{headCell, tripleCell}
+use Rattle.table.specs.Cells.{headCell}
 use Rattle.table.specs.Places.{place, headPlace, triplePlace, readAt, putAt}
 use Rattle.table.proofs.Bytes.{cell-small}
 

@@ -1,10 +1,10 @@
--- `decide::look::quiet` meets its contract. Assumes nothing.
+-- `decide::quiet` meets its contract. Assumes nothing.
 use mathlib.Core.Path.{ap, _∙_}
 use borrow.Author.Needs.{needs}
 use Rattle.decide.proofs.Seen.{first-fails, first-passes}
 use Rattle.decide.specs.Look.{without}
-use Rattle.decide.proofs.look.quiet.Statement.{statement}
-use Rattle.decide.proofs.look.quiet.Tie as tie
+use Rattle.decide.proofs.quiet.Statement.{statement}
+use Rattle.decide.proofs.quiet.Tie as tie
 
 head-count-requires : tie.Need-head-count-requires
 head-count-requires c κs = search needs

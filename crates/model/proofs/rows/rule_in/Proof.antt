@@ -1,9 +1,9 @@
--- `model::range::rule_in` meets its contract. Assumes nothing.
+-- `model::rows::rule_in` meets its contract. Assumes nothing.
 use denote.Ref.{now}
 use borrow.Author.Needs.{needs}
 use Rattle.model.proofs.Tested.{rule-tested, no-rule}
-use Rattle.model.proofs.range.rule_in.Statement.{statement}
-use Rattle.model.proofs.range.rule_in.Tie as tie
+use Rattle.model.proofs.rows.rule_in.Statement.{statement}
+use Rattle.model.proofs.rows.rule_in.Tie as tie
 
 in-row-requires : tie.Need-in-row-requires
 in-row-requires c κs = search needs

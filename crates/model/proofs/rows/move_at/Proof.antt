@@ -1,7 +1,7 @@
--- `model::step::move_at` meets its contract: the three numbers of the row. Assumes nothing.
+-- `model::rows::move_at` meets its contract: the three numbers of the row. Assumes nothing.
 use borrow.Author.Needs.{needs}
-use Rattle.model.proofs.step.move_at.Statement.{statement}
-use Rattle.model.proofs.step.move_at.Tie as tie
+use Rattle.model.proofs.rows.move_at.Statement.{statement}
+use Rattle.model.proofs.rows.move_at.Tie as tie
 
 in-row-requires : tie.Need-in-row-requires
 in-row-requires c κs = search needs

@@ -1,10 +1,10 @@
--- `model::range::move_in` meets its contract. Assumes nothing.
+-- `model::rows::move_in` meets its contract. Assumes nothing.
 use denote.Ref.{now}
 use borrow.Author.Tests.{lt-ltb, le-ltb}
 use borrow.Author.Needs.{needs}
 use Rattle.model.proofs.Tested.{move-tested}
-use Rattle.model.proofs.range.move_in.Statement.{statement}
-use Rattle.model.proofs.range.move_in.Tie as tie
+use Rattle.model.proofs.rows.move_in.Statement.{statement}
+use Rattle.model.proofs.rows.move_in.Tie as tie
 
 move-at-requires : tie.Need-move-at-requires
 move-at-requires c κs = search needs

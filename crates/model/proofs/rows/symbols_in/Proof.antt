@@ -1,9 +1,9 @@
--- `model::range::symbols_in` meets its contract. Assumes nothing.
+-- `model::rows::symbols_in` meets its contract. Assumes nothing.
 use mathlib.Core.Bool.{and-true}
 use borrow.Author.Tests.{lt-ltb, le-ltb}
 use borrow.Author.Needs.{needs}
-use Rattle.model.proofs.range.symbols_in.Statement.{statement}
-use Rattle.model.proofs.range.symbols_in.Tie as tie
+use Rattle.model.proofs.rows.symbols_in.Statement.{statement}
+use Rattle.model.proofs.rows.symbols_in.Tie as tie
 
 enum-known-rule : tie.Need-enum-known-rule
 enum-known-rule c = search needs

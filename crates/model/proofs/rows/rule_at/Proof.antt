@@ -1,9 +1,9 @@
--- `model::step::rule_at` meets its contract: the kind that was read decides. Assumes nothing.
+-- `model::rows::rule_at` meets its contract: the kind that was read decides. Assumes nothing.
 use denote.Ref.{now}
 use borrow.Author.Needs.{needs}
 use Rattle.model.proofs.Answers.{is-exit, is-direct, is-call}
-use Rattle.model.proofs.step.rule_at.Statement.{statement}
-use Rattle.model.proofs.step.rule_at.Tie as tie
+use Rattle.model.proofs.rows.rule_at.Statement.{statement}
+use Rattle.model.proofs.rows.rule_at.Tie as tie
 
 in-row-requires : tie.Need-in-row-requires
 in-row-requires c κs = search needs

@@ -1,4 +1,4 @@
--- `decide::look::without` meets its contract. Assumes nothing.
+-- `decide::without` meets its contract. Assumes nothing.
 use mathlib.Core.Bool.{true, not}
 use mathlib.Core.Path.{ap, _≡_, refl}
 use Prim.Native.Nat.{_≤_, _-_}
@@ -8,8 +8,8 @@ use borrow.Author.Needs.{needs}
 use Rattle.product.specs.Lists.{upTo, all}
 use Rattle.model.proofs.Counted.{more, stop, done}
 use Rattle.decide.proofs.Seen.{is, is-not}
-use Rattle.decide.proofs.look.without.Statement.{statement}
-use Rattle.decide.proofs.look.without.Tie as tie
+use Rattle.decide.proofs.without.Statement.{statement}
+use Rattle.decide.proofs.without.Tie as tie
 
 abbrev Inv-loop : tie.InvT-loop
 Inv-loop cells n k i₀ i = (i ≤ n) × (all (λ i. not (eqb (getD cells i 0) k)) (upTo i) ≡ true)

@@ -1,11 +1,11 @@
--- `model::step::in_row` meets its contract: its place does not wrap, and past the end it reads 0. Assumes nothing.
+-- `model::rows::in_row` meets its contract: its place does not wrap, and past the end it reads 0. Assumes nothing.
 use Prim.Native.Nat.{_+_, _*_}
 use native.Mathlib.Omega.{arith}
 use denote.Ref.{now}
 use borrow.Author.Needs.{needs}
-use Rattle.model.proofs.Rows.{place, row-past, past}
-use Rattle.model.proofs.step.in_row.Statement.{statement}
-use Rattle.model.proofs.step.in_row.Tie as tie
+use Rattle.model.proofs.Places.{place, row-past, past}
+use Rattle.model.proofs.rows.in_row.Statement.{statement}
+use Rattle.model.proofs.rows.in_row.Tie as tie
 
 returns : tie.Need-returns
 returns c = row-past (c .before .args .r) (c .before .pre) (c .if1 .taken)
