@@ -101,6 +101,13 @@ module _ {A : Type 0} where
   find-over p zero f = refl
   find-over p (suc n) f = ap (find p) (over-suc n f) ∙ find-append p (over (upTo n) f) (f n) ∙ ap (λ o. orElse o (find p (f n))) (find-over p n f)
 
+  -- the turns of a loop over the numbers
+  pub find-more : (p : A → Bool) (f : ℕ → List A) (i : ℕ) → find p (over (upTo i) f) ≡ none → find p (f i) ≡ none → find p (over (upTo (i + 1)) f) ≡ none
+  find-more p f i h k = find-over p (i + 1) f ∙ first-more (λ i. find p (f i)) i (sym (find-over p i f) ∙ h) k
+
+  pub find-here : (p : A → Bool) (f : ℕ → List A) (n i : ℕ) (x : A) → i < n → find p (over (upTo i) f) ≡ none → find p (f i) ≡ some x → find p (over (upTo n) f) ≡ some x
+  find-here p f n i x l h k = find-over p n f ∙ first-here (λ i. find p (f i)) n i x l (sym (find-over p i f) ∙ h) k
+
   -- none that passes
   pub find-fails : (p : A → Bool) (n : ℕ) (f : ℕ → A) → ((i : ℕ) → p (f i) ≡ false) → find p (each (upTo n) f) ≡ none
   find-fails p n f h = find-over p n (λ i. f i ∷ []) ∙ first-idle (λ i. find p (f i ∷ [])) n (λ i _. rw (h i))
