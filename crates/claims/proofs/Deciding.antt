@@ -3,21 +3,20 @@ use mathlib.Core.List.{List, _++_}
 use mathlib.Core.Logic.{_↔_}
 use mathlib.Core.Option.{Option, none, some}
 use mathlib.Core.Path.{_≡_, refl, sym, ap, _∙_, subst, subst⁻¹}
-use Prim.Native.Nat.{ℕ, _+_, _*_, _<_, _≤_}
-use native.Mathlib.Nat.{mul-comm, mul-assoc}
+use Prim.Native.Nat.{ℕ, _+_, _<_, _≤_}
 use native.Mathlib.Omega.{arith}
-use lib.Dec.{T, leb, leb→le, le→leb}
+use lib.Dec.{T}
 use lib.ListN.{length, drop, length-append, length-drop}
-use Rattle.product.specs.Lists.{upTo, over, each}
-use Rattle.product.specs.Facts.{head, triple}
 use Rattle.product.specs.Verdict.{violation, safe, rounds, Verdict, IsVerdict, answer, bound}
-use Rattle.product.specs.Table.{Table, present, ranks, left}
+use Rattle.product.specs.Table.{present, ranks, left}
 use Rattle.product.specs.Check.{accepts}
 use Rattle.product.specs.Demands.{Violates, Demands}
-use Rattle.product.proofs.Lists.{T-true, and-left, and-right, both, length-over, length-each, length-upTo}
+use Rattle.product.proofs.Lists.{T-true, and-left, and-right, length-upTo}
 use Rattle.product.proofs.Budget.{answer-of}
 use Rattle.product.proofs.Demands.{demands, bound-small}
 use Rattle.table.specs.Cells.{view, headsOf, triplesOf}
+use Rattle.table.proofs.Long.{long-exactly}
+use Rattle.table.proofs.ReadBack.{length-heads, length-triples}
 use Rattle.model.specs.declared.Model.{Model}
 use Rattle.model.specs.Model.{productOf}
 use Rattle.model.specs.Valid.{valid}
@@ -40,18 +39,6 @@ accepting m hs ts e (ss, c, r) = accepted-safe m hs ts e ss c r
 within-verdict : (b : ℕ) (o : Option Verdict) (v : Verdict) → within b o ≡ verdict v → o ≡ some v
 within-verdict b none v e = let z : _≡_ {A = ℕ} 0 1 = cc in absurd (omega arith)
 within-verdict b (some u) v e = let i : u ≡ v = cc in ap some i
-
--- a table laid out has as many cells as facts
-length-heads : (G Q : ℕ) (t : Table) → length (headsOf G Q t) ≡ Q * G
-length-heads G Q t =
-    length-over G (upTo Q) (λ q. each (upTo G) (λ g. t (head q g))) (λ q. length-each (upTo G) (λ g. t (head q g)) ∙ length-upTo G)
-    ∙ ap (λ n. n * G) (length-upTo Q)
-
-length-triples : (G Q : ℕ) (t : Table) → length (triplesOf G Q t) ≡ Q * (G * Q)
-length-triples G Q t =
-    length-over (G * Q) (upTo Q) (λ q. over (upTo G) (λ g. each (upTo Q) (λ e. t (triple q g e))))
-    (λ q. length-over Q (upTo G) (λ g. each (upTo Q) (λ e. t (triple q g e))) (λ g. length-each (upTo Q) (λ e. t (triple q g e)) ∙ length-upTo Q) ∙ ap (λ n. n * Q) (length-upTo G))
-    ∙ ap (λ n. n * (G * Q)) (length-upTo Q)
 
 module _ (m : Model) (hs ts : List ℕ) (ready : T (decides m hs ts)) where
   is-valid : T (valid m)
@@ -107,29 +94,23 @@ module _ (m : Model) (hs ts : List ℕ) (ready : T (decides m hs ts)) where
         rw (heads-left b (Safe n) hs′ ts′ d, triples-left b (Safe n) hs′ ts′ d, safe-answer)
         (ranks-laid m is-valid n (drop (headCount m) hs) (drop (tripleCount m) ts))
 
-    heads-long : headCount m ≤ length hs
-    heads-long = leb→le (headCount m) (length hs) (and-left (leb (headCount m) (length hs)) (leb (tripleCount m) (length ts)) long)
-
-    triples-long : tripleCount m ≤ length ts
-    triples-long = leb→le (tripleCount m) (length ts) (and-right (leb (headCount m) (length hs)) (leb (tripleCount m) (length ts)) long)
+    enough : (headCount m ≤ length hs) × (tripleCount m ≤ length ts)
+    enough = long-exactly (m .symbols) (m .states) (length hs) (length ts) .0 long
 
     same-heads : length hs′ ≡ length hs
     same-heads =
         ap length (heads-left b (Safe n) hs′ ts′ d)
         ∙ length-append (headsOf (m .symbols) (m .states) (left (productOf m) b)) (drop (headCount m) hs)
-        ∙ omega (arith, length-heads (m .symbols) (m .states) (left (productOf m) b), length-drop (headCount m) hs, heads-long)
+        ∙ omega (arith, length-heads (m .symbols) (m .states) (left (productOf m) b), length-drop (headCount m) hs, enough .0)
 
     same-triples : length ts′ ≡ length ts
     same-triples =
         ap length (triples-left b (Safe n) hs′ ts′ d)
         ∙ length-append (triplesOf (m .symbols) (m .states) (left (productOf m) b)) (drop (tripleCount m) ts)
-        ∙ omega (arith, length-triples (m .symbols) (m .states) (left (productOf m) b), length-drop (tripleCount m) ts, triples-long, mul-assoc (m .states) (m .symbols) (m .states))
+        ∙ omega (arith, length-triples (m .symbols) (m .states) (left (productOf m) b), length-drop (tripleCount m) ts, enough .1)
 
     still-long : T (check.longEnough (check.sizeOf m) hs′ ts′)
-    still-long =
-        both (leb (m .symbols * m .states) (length hs′)) (leb (m .symbols * m .states * m .states) (length ts′))
-        (le→leb (m .symbols * m .states) (length hs′) (omega (arith, same-heads, heads-long, mul-comm (m .symbols) (m .states))))
-        (le→leb (m .symbols * m .states * m .states) (length ts′) (omega (arith, same-triples, triples-long, ap (λ n. n * m .states) (mul-comm (m .symbols) (m .states)))))
+    still-long = long-exactly (m .symbols) (m .states) (length hs′) (length ts′) .1 (omega (arith, same-heads, enough .0), omega (arith, same-triples, enough .1))
 
     safe-table : recheck m hs′ ts′ ≡ Accepted
     safe-table = accepted-exactly m hs′ ts′ .1 (

@@ -2,7 +2,7 @@
 use mathlib.Core.Bool.{Bool, true, false, not}
 use mathlib.Core.List.{List, _++_}
 use mathlib.Core.Option.{Option, none, some}
-use mathlib.Core.Path.{_≡_, refl, sym, ap, _∙_, subst, subst⁻¹}
+use mathlib.Core.Path.{_≡_, refl, sym, ap, _∙_, subst⁻¹}
 use Prim.Native.Nat.{ℕ, suc, _+_, _<_, _≤_}
 use native.Mathlib.Decide.{ℕ-discrete}
 use native.Mathlib.Numerals.{add-one}
@@ -20,17 +20,20 @@ use Rattle.product.proofs.Demands.{bound-small}
 use Rattle.product.specs.Verdict as product
 use Rattle.table.specs.Cells.{headsOf, triplesOf}
 use Rattle.table.proofs.LaidOut.{heads-laid, triples-laid}
+use Rattle.culprit.specs.Culprit.{cleanIn}
+use Rattle.culprit.proofs.Found.{clean-held}
 use Rattle.model.specs.declared.Model.{Model}
 use Rattle.model.specs.Model.{productOf}
 use Rattle.model.proofs.Valid.{product-in, valid-sizes}
+use Rattle.model.proofs.Bounds.{start-state-in, start-symbol-in}
 use Rattle.ways.specs.Taken.{Arrays, arrays, tableOf}
 use Rattle.rounds.specs.Round.{Long, sizeOf, startOf, roundOf}
 use Rattle.rounds.proofs.InPlace.{Became, became-same, became-long, became-then, became-round, became-start}
 use Rattle.decide.specs.declared.Decision.{Decision}
 use Rattle.decide.specs.declared.Decision.the-variants.{Violation, Safe, Spent}
 use Rattle.decide.specs.Decided.{meaning, within}
-use Rattle.decide.specs.Look.{clean, quiet, Ready, Ran}
-use Rattle.decide.proofs.Looked.{clean-is, quiet-is}
+use Rattle.decide.specs.Look.{quiet, Ready, Ran}
+use Rattle.decide.proofs.Looked.{quiet-is}
 
 T-of : (b : Bool) → not b ≡ false → T b
 T-of b e = rw (not-false b e) tt
@@ -82,9 +85,11 @@ module _ {m : Model} {hs ts hs₁ ts₁ : List ℕ} (r : Ready m hs ts) (e : arr
         }
 
     -- b is what the look for violating facts gave
-    module _ {b : Bool} (looked : b ≡ clean (sizeOf m) (m .finals) hs′ ts′ (m .startstate) (m .startsymbol)) where
+    module _ {b : Bool} (looked : b ≡ cleanIn (m .finals) (m .symbols) (m .states) hs′ ts′ (m .startstate) (m .startsymbol)) where
       is-clean : not (violated (productOf m) n) ≡ b
-      is-clean = sym (clean-is m (r .valid-model) n small hs′ ts′ (whole .is)) ∙ sym looked
+      is-clean =
+          sym (clean-held (productOf m) (m .finals) (m .states) refl (λ _. refl) hs′ ts′ (start-state-in m (r .valid-model)) (start-symbol-in m (r .valid-model)) n small (whole .is))
+          ∙ sym looked
 
       pub violates : not b ≡ true → Ran m budget hs ts (Violation n) hs′ ts′
       violates h = answered (Violation n) (some (violation n)) (answer-of (productOf m) budget (violation n) (g .goes, T-of (violated (productOf m) n) (is-clean ∙ not-true b h)) (g .in-budget)) refl refl

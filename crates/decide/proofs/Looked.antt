@@ -1,7 +1,7 @@
--- What is looked for in the arrays is what the rounds' definitions ask: a violating fact held, and a fact that the round has added. Assumes nothing.
-use mathlib.Core.Bool.{Bool, true, false, cond, not, _&&_, Bool·not-not}
+-- What is looked for in the arrays is what the rounds' definitions ask: a fact that the round has added. Assumes nothing.
+use mathlib.Core.Bool.{Bool, true, false, cond, not, _&&_}
 use mathlib.Core.List.{List}
-use mathlib.Core.Path.{_≡_, refl, sym, ap, _∙_, subst, subst⁻¹}
+use mathlib.Core.Path.{_≡_, refl, sym, ap, _∙_}
 use Prim.Native.Nat.{ℕ, zero, suc, _+_, _*_, _<_, _/_, _%_}
 use native.Mathlib.Nat.{div-add-mod', div-lt-iff-lt-mul, mod-lt}
 use native.Mathlib.Omega.{arith}
@@ -13,22 +13,21 @@ use Rattle.product.specs.Lists.{upTo, all}
 use Rattle.product.specs.Product.{Product, InRange}
 use Rattle.product.specs.Facts.{Fact, head, triple, first, cells}
 use Rattle.product.specs.Rounds.{held}
-use Rattle.product.specs.Table.{absent, present, ranks}
-use Rattle.product.specs.Verdict.{violating, violated, adds}
-use Rattle.product.proofs.Lists.{and-left, and-right, both, if-then, then-if, same-truth, some-of, any-of, all-of, All-upTo, upTo-lt}
+use Rattle.product.specs.Table.{absent, ranks}
+use Rattle.product.specs.Verdict.{adds}
+use Rattle.product.proofs.Lists.{and-left, and-right, both, same-truth, some-of, any-of, all-of, All-upTo, upTo-lt}
 use Rattle.product.proofs.Rounds.{held-start}
 use Rattle.product.proofs.Range.{held-within, held-cell}
-use Rattle.product.proofs.Ranks.{ranks-rank, ranks-absent, present-held}
-use Rattle.product.proofs.Verdict.{violated-by}
-use Rattle.table.specs.Cells.{headCell, tripleCell, headIn, tripleIn}
+use Rattle.product.proofs.Ranks.{ranks-rank, ranks-absent}
+use Rattle.table.specs.Cells.{headCell, tripleCell}
 use Rattle.table.proofs.Cells.{head-inside, triple-inside}
 use Rattle.model.specs.declared.Model.{Model}
-use Rattle.model.specs.Model.{final, productOf}
+use Rattle.model.specs.Model.{productOf}
 use Rattle.model.specs.Valid.{valid}
 use Rattle.model.proofs.Valid.{all-below, product-in, valid-sizes}
 use Rattle.ways.specs.Taken.{arrays, tableOf}
 use Rattle.rounds.specs.Round.{sizeOf}
-use Rattle.decide.specs.Look.{rowFree, stateClean, headsClean, endClean, endsClean, clean, without, quiet}
+use Rattle.decide.specs.Look.{without, quiet}
 
 not-of : (b : Bool) → (T b → ⊥) → T (not b)
 not-of true h = absurd (h tt)
@@ -73,58 +72,6 @@ module _ (m : Model) (v : T (valid m)) (n : ℕ) (l : n < absent) (hs ts : List 
 
   R : InRange p
   R = product-in m v
-
-  free : (f : Fact) → eqb (tableOf (sizeOf m) (arrays hs ts) f) absent ≡ not (held p n f)
-  free f = sym (Bool·not-not (eqb (tableOf (sizeOf m) (arrays hs ts) f) absent)) ∙ ap (λ t. not (present t f)) e ∙ ap (λ h. not (h f)) (present-held p n l)
-
-  not-free : (f : Fact) → T (eqb (tableOf (sizeOf m) (arrays hs ts) f) absent) → T (held p n f) → ⊥
-  not-free f t h = T-not (held p n f) (subst T (free f) t) h
-
-  is-free : (f : Fact) → (T (held p n f) → ⊥) → T (eqb (tableOf (sizeOf m) (arrays hs ts) f) absent)
-  is-free f h = subst⁻¹ T (free f) (not-of (held p n f) h)
-
-  abbrev looked : Bool
-  looked = clean (sizeOf m) (m .finals) hs ts (m .startstate) (m .startsymbol)
-
-  clean-none : T looked → (f : Fact) → T (violating p f) → T (held p n f) → ⊥
-  clean-none t (head q g) w h =
-      let (i, j) = held-within p R n (head q g) h in
-      let a : T (headsClean (sizeOf m) (m .finals) hs) = and-left (headsClean (sizeOf m) (m .finals) hs) (endsClean (sizeOf m) (m .finals) ts (m .startstate) (m .startsymbol)) t in
-      let b : T (stateClean (sizeOf m) (m .finals) hs q) = all-below (stateClean (sizeOf m) (m .finals) hs) (m .states) a q (upTo-lt (m .states) q i) in
-      let c : T (rowFree (sizeOf m) hs q) = if-then (final m q) (rowFree (sizeOf m) hs q) b w in
-      not-free (head q g) (all-below (λ g. eqb (headIn (m .symbols) (m .states) hs q g) absent) (m .symbols) c g j) h
-  clean-none t (triple q g d) w h =
-      let (i, j, k) = held-within p R n (triple q g d) h in
-      let a : T (endsClean (sizeOf m) (m .finals) ts (m .startstate) (m .startsymbol)) = and-right (headsClean (sizeOf m) (m .finals) hs) (endsClean (sizeOf m) (m .finals) ts (m .startstate) (m .startsymbol)) t in
-      let b : T (endClean (sizeOf m) (m .finals) ts (m .startstate) (m .startsymbol) d) = all-below (endClean (sizeOf m) (m .finals) ts (m .startstate) (m .startsymbol)) (m .states) a d (upTo-lt (m .states) d k) in
-      let at-start : T (eqb q (m .startstate) && eqb g (m .startsymbol)) = and-left (eqb q (m .startstate) && eqb g (m .startsymbol)) (final m d) w in
-      let x : q ≡ m .startstate = eqb→eq q (m .startstate) (and-left (eqb q (m .startstate)) (eqb g (m .startsymbol)) at-start) in
-      let y : g ≡ m .startsymbol = eqb→eq g (m .startsymbol) (and-right (eqb q (m .startstate)) (eqb g (m .startsymbol)) at-start) in
-      let z : triple q g d ≡ triple (m .startstate) (m .startsymbol) d = cc in
-      not-free (triple (m .startstate) (m .startsymbol) d)
-      (if-then (final m d) (eqb (tripleIn (m .symbols) (m .states) ts (m .startstate) (m .startsymbol) d) absent) b (and-right (eqb q (m .startstate) && eqb g (m .startsymbol)) (final m d) w))
-      (subst (λ f. T (held p n f)) z h)
-
-  pub clean-is : looked ≡ not (violated p n)
-  unfolding violated
-  clean-is = same-truth looked (not (violated p n)) to from
-    where
-      to : T looked → T (not (violated p n))
-      to t = not-of (violated p n) λ u.
-          let (f, _, w) = some-of (λ f. violating p f && held p n f) (cells p) u in
-          clean-none t f (and-left (violating p f) (held p n f) w) (and-right (violating p f) (held p n f) w)
-
-      from : T (not (violated p n)) → T looked
-      from t = both (headsClean (sizeOf m) (m .finals) hs) (endsClean (sizeOf m) (m .finals) ts (m .startstate) (m .startsymbol))
-          (all-upTo (stateClean (sizeOf m) (m .finals) hs) (m .states) λ q _. then-if (final m q) (rowFree (sizeOf m) hs q) λ w.
-          all-upTo (λ g. eqb (headIn (m .symbols) (m .states) hs q g) absent) (m .symbols) λ g _. is-free (head q g) λ h.
-          T-not (violated p n) t (violated-by p R n (head q g) w h))
-          (all-upTo (endClean (sizeOf m) (m .finals) ts (m .startstate) (m .startsymbol)) (m .states) λ d _.
-          then-if (final m d) (eqb (tripleIn (m .symbols) (m .states) ts (m .startstate) (m .startsymbol) d) absent) λ w.
-          is-free (triple (m .startstate) (m .startsymbol) d) λ h. T-not (violated p n) t (violated-by p R n (triple (m .startstate) (m .startsymbol) d) (at-start (m .startstate) (m .startsymbol) (final m d) w) h))
-        where
-          at-start : (q g : ℕ) (b : Bool) → T b → T (eqb q q && eqb g g && b)
-          at-start q g b w = rw (eq-eqb q q refl, eq-eqb g g refl) w
 
   -- what stands in a cell is the rank of its fact
   head-cell : (q g : ℕ) → q < m .states → g < m .symbols → getD hs (headCell (m .symbols) q g) 0 ≡ ranks p n (head q g)

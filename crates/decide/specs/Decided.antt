@@ -3,12 +3,12 @@ use mathlib.Core.Bool.{Bool, cond, _&&_}
 use mathlib.Core.List.{List, [], _∷_, _++_}
 use mathlib.Core.Option.{Option, none, some}
 use mathlib.Core.Path.{_≡_}
-use Prim.Native.Nat.{ℕ, _*_}
-use lib.Dec.{leb}
+use Prim.Native.Nat.{ℕ}
 use lib.ListN.{length, drop}
 use Rattle.product.specs.Verdict as product
 use Rattle.product.specs.Verdict.{violation, safe}
 use Rattle.product.specs.Table.{left}
+use Rattle.table.specs.Cells as table
 use Rattle.table.specs.Cells.{headsOf, triplesOf}
 use Rattle.model.specs.declared.Model.{Model}
 use Rattle.model.specs.Model.{productOf}
@@ -34,15 +34,15 @@ abbrev pub within : (budget : ℕ) → Option product.Verdict → Answer
 within budget none = refused 8 (budget ∷ [])
 within budget (some v) = verdict v
 
--- heads G·Q, triples G·Q·Q
+-- the table of a model: how many heads and triples it has, and whether arrays of these lengths have room for it
 abbrev pub headCount : Model → ℕ
-headCount m = m .states * m .symbols
+headCount m = table.headCount (m .symbols) (m .states)
 
 abbrev pub tripleCount : Model → ℕ
-tripleCount m = m .states * m .symbols * m .states
+tripleCount m = table.tripleCount (m .symbols) (m .states)
 
 abbrev pub longEnough : Model → (heads triples : ℕ) → Bool
-longEnough m heads triples = leb (headCount m) heads && leb (tripleCount m) triples
+longEnough m = table.longEnough (m .symbols) (m .states)
 
 -- 6, then 7, and then the answer under the budget; `heads` and `triples` are the lengths of the arrays
 unfoldable pub decision : Model → (budget heads triples : ℕ) → Answer

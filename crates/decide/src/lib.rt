@@ -1,7 +1,11 @@
 // The decision: rounds over the two lent arrays until a violating fact is held, a round adds nothing, or the budget is spent.
 ghost use mathlib.Core.Path.{_≡_};
+ghost use Prim.Native.Nat.{_≤_};
+ghost use lib.ListN.{length};
+ghost use Rattle.ways.specs.Taken.{arrays};
+ghost use Rattle.rounds.specs.Round.{Long};
 ghost use Rattle.decide.specs.Decided.{Decided};
-ghost use Rattle.decide.specs.Look.{Ready, Ran};
+ghost use Rattle.decide.specs.Look.{without, quiet, Ready, Ran};
 use model::Model;
 use table::Size;
 
@@ -14,7 +18,31 @@ pub enum Decision {
     Spent(u32),
 }
 
-mod look; // what the arrays hold after a round
+// None of the first n cells has the number k.
+fn without(cells: &[u16], n: usize, k: u16) -> bool
+    requires { ⌜ n ≤ length (now cells) ⌝ }
+    ensures { λ b. ⌜ b ≡ without (now (cells .entry)) n k ⌝ }
+{
+    let mut i: usize = 0;
+    while i < n {
+        if cells[i] == k {
+            return false;
+        }
+        i += 1;
+    }
+    true
+}
+
+// Round k has added nothing.
+fn quiet<'a>(heads: &'a [u16], triples: &'a [u16], size: Size, k: u16) -> bool
+    requires { ⌜ Long size (arrays (now heads) (now triples)) ⌝ }
+    ensures { λ b. ⌜ b ≡ quiet size (now (heads .entry)) (now (triples .entry)) k ⌝ }
+{
+    if !without(heads, table::head_count(size), k) {
+        return false;
+    }
+    without(triples, table::triple_count(size), k)
+}
 
 // The rounds of a valid model, in arrays that are long enough.
 fn run(heads: &mut [u16], triples: &mut [u16], m: Model, budget: u32) -> Decision
@@ -30,10 +58,10 @@ fn run(heads: &mut [u16], triples: &mut [u16], m: Model, budget: u32) -> Decisio
     rounds::start(heads, triples, m);
     let mut n: u16 = 0;
     loop {
-        if !look::clean(heads, triples, &m.finals, size, q, g) {
+        if !culprit::is_clean(&m.finals, heads, triples, size, q, g) {
             return Decision::Violation(n);
         }
-        if look::quiet(heads, triples, size, n) {
+        if quiet(heads, triples, size, n) {
             return Decision::Safe(n);
         }
         if budget <= n as u32 {
@@ -55,10 +83,7 @@ pub fn decide(m: Model, budget: u32, heads: &mut [u16], triples: &mut [u16]) -> 
         symbols: m.symbols,
         states: m.states,
     };
-    if heads.len() < rounds::head_count(size) {
-        return Decision::Short;
-    }
-    if triples.len() < rounds::triple_count(size) {
+    if !table::long_enough(heads, triples, size) {
         return Decision::Short;
     }
     run(heads, triples, m, budget)

@@ -1,5 +1,5 @@
 pub mod Steps
-pub mod Rows
+pub mod Places
 pub mod Answers
 pub mod Valid
 pub mod Bounds

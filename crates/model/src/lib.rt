@@ -36,9 +36,10 @@ pub enum Next {
     Stuck,
 }
 
-mod step; // the rule of a row, and the step that a rule and a move make
+mod rows; // the rule and the move of a row
+mod step; // the step that a rule and a move make
 mod range; // which records are valid
 
 pub use range::is_valid;
+pub use rows::rule_at;
 pub use step::next_state;
-pub use step::rule_at;

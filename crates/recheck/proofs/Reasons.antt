@@ -1,14 +1,17 @@
 -- The check's answer, reason by reason, from what its code was answered. Assumes nothing.
-use mathlib.Core.Bool.{Bool, true, false, not, _&&_}
+use mathlib.Core.Bool.{Bool, true, false, not}
 use mathlib.Core.List.{List}
 use mathlib.Core.Option.{Option}
-use mathlib.Core.Path.{_≡_, sym, ap, _∙_}
+use mathlib.Core.Path.{_≡_, refl, sym, ap, _∙_}
 use Prim.Native.Nat.{ℕ}
 use lib.Dec.{T}
+use borrow.Author.Tests.{not-true, not-false}
 use Rattle.product.specs.Lists.{upTo, over, each, find}
 use Rattle.product.specs.Product.{Product, Step}
 use Rattle.product.specs.Facts.{Fact, first, pairs}
 use Rattle.product.specs.Check.{closedAt, clean, fails, openAt, checked}
+use Rattle.culprit.specs.Culprit.{cleanIn}
+use Rattle.culprit.proofs.Found.{clean-found}
 use Rattle.model.specs.declared.Model.{Model}
 use Rattle.model.specs.Model.{productOf}
 use Rattle.model.specs.Valid.{valid}
@@ -18,10 +21,9 @@ use Rattle.recheck.specs.declared.Recheck.the-variants.{Accepted, Invali
 use Rattle.recheck.specs.declared.Found.{Found}
 use Rattle.recheck.specs.declared.Found.the-variants.{At, Nowhere}
 use Rattle.recheck.specs.Recheck.{sizeOf, longEnough, inTable, answer, recheck}
-use Rattle.recheck.specs.Tests.{headsClean, endsClean, step, isOpen, foundAs}
+use Rattle.recheck.specs.Tests.{step, isOpen, foundAs}
 use Rattle.recheck.proofs.Search.{found-some, found-none}
 use Rattle.recheck.proofs.Steps.{open-is}
-use Rattle.recheck.proofs.Spotless.{clean-is}
 
 module _ (p : Product) (t : Fact → Bool) where
   pub starts-not : t (first p) ≡ false → checked p t ≡ fails 1 0 0
@@ -40,13 +42,10 @@ module _ (p : Product) (t : Fact → Bool) where
 abbrev facts : Model → (heads triples : List ℕ) → Fact → Bool
 facts m hs ts = inTable (sizeOf m) hs ts
 
-abbrev endsOf : Model → (Fact → Bool) → Bool
-endsOf m t = endsClean (m .states) (m .finals) t (m .startstate) (m .startsymbol)
-
 abbrev openingOf : Model → (Fact → Bool) → Option Step
 openingOf m t = find (isOpen (m .rulerows) (m .moverows) (m .shows) (m .states) t) (over (upTo (m .rules)) (λ r. each (upTo (m .moves)) (step r)))
 
--- is the record valid, are the arrays long enough, is the start head there, are heads and ends clean
+-- is the record valid, are the arrays long enough, is the start head there, and no violating fact
 module _ (m : Model) (hs ts : List ℕ) {a : Bool} (sound : a ≡ valid m) where
   pub is-invalid : not a ≡ true → Invalid ≡ recheck m hs ts
   unfolding recheck
@@ -66,27 +65,21 @@ module _ (m : Model) (hs ts : List ℕ) {a : Bool} (sound : a ≡ valid m) where
         pub has-no-start : not c ≡ true → NoStart ≡ recheck m hs ts
         has-no-start n = sym (checks ∙ ap answer (starts-not (productOf m) (facts m hs ts) (failed start n)))
 
-        module _ (i : not c ≡ false) where
-          both-clean : clean (productOf m) (facts m hs ts) ≡ (headsClean (m .symbols) (m .states) (m .finals) (facts m hs ts) && endsOf m (facts m hs ts))
-          both-clean = let v : T (valid m) = rw (passed sound y) tt in clean-is m (facts m hs ts) (start-state-in m v) (start-symbol-in m v)
+        module _ (i : not c ≡ false) {d : Bool} (looked : d ≡ cleanIn (m .finals) (m .symbols) (m .states) hs ts (m .startstate) (m .startsymbol)) where
+          clean-is : clean (productOf m) (facts m hs ts) ≡ d
+          clean-is =
+              let v : T (valid m) = rw (passed sound y) tt in
+              sym (clean-found (productOf m) (m .finals) (m .states) refl (λ _. refl) hs ts (start-state-in m v) (start-symbol-in m v)) ∙ sym looked
 
-          module _ {d : Bool} (heads : d ≡ headsClean (m .symbols) (m .states) (m .finals) (facts m hs ts)) where
-            pub has-violating-head : not d ≡ true → Violating ≡ recheck m hs ts
-            has-violating-head n = sym (checks ∙ ap answer (violates (productOf m) (facts m hs ts) (passed start i) (both-clean ∙ ap (λ d. d && endsOf m (facts m hs ts)) (failed heads n))))
+          pub has-violating : not d ≡ true → Violating ≡ recheck m hs ts
+          has-violating n = sym (checks ∙ ap answer (violates (productOf m) (facts m hs ts) (passed start i) (clean-is ∙ not-true d n)))
 
-            module _ (j : not d ≡ false) {e : Bool} (ends′ : e ≡ endsOf m (facts m hs ts)) where
-              sides-are : clean (productOf m) (facts m hs ts) ≡ endsOf m (facts m hs ts)
-              sides-are = both-clean ∙ ap (λ d. d && endsOf m (facts m hs ts)) (passed heads j)
+          module _ (l : not d ≡ false) {f : Found} (found : f ≡ foundAs (openingOf m (facts m hs ts))) where
+            searched : recheck m hs ts ≡ answer (openAt (openingOf m (facts m hs ts)))
+            searched = checks ∙ ap answer (opens (productOf m) (facts m hs ts) (passed start i) (clean-is ∙ not-false d l) ∙ ap openAt (open-is m (facts m hs ts)))
 
-              pub has-violating-end : not e ≡ true → Violating ≡ recheck m hs ts
-              has-violating-end n = sym (checks ∙ ap answer (violates (productOf m) (facts m hs ts) (passed start i) (sides-are ∙ failed ends′ n)))
+            pub is-open : {r v : ℕ} → f ≡ At r v → Open r v ≡ recheck m hs ts
+            is-open e = sym (searched ∙ ap (λ o. answer (openAt o)) (found-some (openingOf m (facts m hs ts)) found e))
 
-              module _ (l : not e ≡ false) {f : Found} (found : f ≡ foundAs (openingOf m (facts m hs ts))) where
-                searched : recheck m hs ts ≡ answer (openAt (openingOf m (facts m hs ts)))
-                searched = checks ∙ ap answer (opens (productOf m) (facts m hs ts) (passed start i) (sides-are ∙ passed ends′ l) ∙ ap openAt (open-is m (facts m hs ts)))
-
-                pub is-open : {r v : ℕ} → f ≡ At r v → Open r v ≡ recheck m hs ts
-                is-open e = sym (searched ∙ ap (λ o. answer (openAt o)) (found-some (openingOf m (facts m hs ts)) found e))
-
-                pub is-accepted : f ≡ Nowhere → Accepted ≡ recheck m hs ts
-                is-accepted e = sym (searched ∙ ap (λ o. answer (openAt o)) (found-none (openingOf m (facts m hs ts)) found e))
+            pub is-accepted : f ≡ Nowhere → Accepted ≡ recheck m hs ts
+            is-accepted e = sym (searched ∙ ap (λ o. answer (openAt o)) (found-none (openingOf m (facts m hs ts)) found e))

@@ -11,8 +11,9 @@ use Rattle.product.proofs.Lists.{All-over, All-each, All-at, upTo-lt}
 use Rattle.model.specs.declared.Model.{Model}
 use Rattle.model.specs.Model.{productOf}
 use Rattle.model.proofs.Steps.{next-rows}
-use Rattle.recheck.specs.Tests.{nextKept, stepKept, step, isClosed, isOpen}
-use Rattle.recheck.proofs.Kept.{all-over, all-same, kept-is}
+use Rattle.kept.specs.Kept.{nextKept}
+use Rattle.kept.proofs.Ways.{all-over, all-same, kept-is}
+use Rattle.recheck.specs.Tests.{stepKept, step, isClosed, isOpen}
 use Rattle.recheck.proofs.Search.{find-same}
 
 module _ (m : Model) (t : Fact → Bool) where

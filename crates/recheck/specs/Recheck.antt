@@ -1,14 +1,14 @@
 -- The table check's answer: its refusals in their order, and the document's number and values of each answer. Assumes nothing.
-use mathlib.Core.Bool.{Bool, cond, not, _&&_}
+use mathlib.Core.Bool.{Bool, cond, not}
 use mathlib.Core.List.{List, [], _∷_}
-use Prim.Native.Nat.{ℕ, _*_}
-use lib.Dec.{eqb, leb}
+use Prim.Native.Nat.{ℕ}
+use lib.Dec.{eqb}
 use lib.ListN.{length}
 use Rattle.product.specs.Facts.{Fact}
-use Rattle.product.specs.Table.{present}
 use Rattle.product.specs.Check.{Checked, passes, fails, checked}
 use Rattle.table.specs.declared.Size.{Size}
-use Rattle.table.specs.Cells.{view}
+use Rattle.table.specs.Cells as table
+use Rattle.kept.specs.Kept as kept
 use Rattle.model.specs.declared.Model.{Model}
 use Rattle.model.specs.Model.{productOf}
 use Rattle.model.specs.Valid.{valid}
@@ -28,13 +28,13 @@ means (Open r v) = refused 11 (3 ∷ r ∷ v ∷ [])
 abbrev pub sizeOf : Model → Size
 sizeOf m = record { symbols = m .symbols; states = m .states }
 
--- heads G·Q, triples G·Q·Q
+-- the arrays have a cell for each head and each triple
 abbrev pub longEnough : Size → (heads triples : List ℕ) → Bool
-longEnough z hs ts = leb (z .symbols * z .states) (length hs) && leb (z .symbols * z .states * z .states) (length ts)
+longEnough z hs ts = table.longEnough (z .symbols) (z .states) (length hs) (length ts)
 
--- the facts of the two arrays: any number but 65,535 means present
+-- the facts of the two arrays
 abbrev pub inTable : Size → (heads triples : List ℕ) → Fact → Bool
-inTable z hs ts = present (view (z .symbols) (z .states) hs ts)
+inTable = kept.inTable
 
 abbrev pub answer : Checked → Recheck
 answer passes = Accepted

@@ -1,10 +1,7 @@
 // The table check: whether the facts in two lent arrays show that no run violates. It knows the model and the definitions, and no decision.
 ghost use mathlib.Core.Path.{_≡_};
-ghost use Rattle.recheck.specs.Recheck.{longEnough, recheck};
-use crate::clean::ends_clean;
-use crate::clean::heads_clean;
+ghost use Rattle.recheck.specs.Recheck.{recheck};
 use crate::closed::open_step;
-use crate::held::has_head;
 use model::Model;
 use table::Size;
 
@@ -24,18 +21,7 @@ enum Found {
     Nowhere,
 }
 
-mod held; // which facts are present
-mod clean; // whether no violating fact is
-mod closed; // whether the consequences of every step are
-
-// The arrays have a cell for each head and each triple.
-fn long_enough<'a>(heads: &'a [u16], triples: &'a [u16], size: Size) -> bool
-    ensures { λ b. ⌜ b ≡ longEnough size (now (heads .entry)) (now (triples .entry)) ⌝ }
-{
-    let states = size.states as usize;
-    let count = (size.symbols as usize) * states;
-    count <= heads.len() && count * states <= triples.len()
-}
+mod closed; // whether the consequences of every step are present
 
 // Accepts exactly if the start head is present, no violating fact is, and every consequence of every step is; else the first reason.
 pub fn check_table<'a>(m: Model, heads: &'a [u16], triples: &'a [u16]) -> Recheck
@@ -48,18 +34,15 @@ pub fn check_table<'a>(m: Model, heads: &'a [u16], triples: &'a [u16]) -> Rechec
         symbols: m.symbols,
         states: m.states,
     };
-    if !long_enough(heads, triples, size) {
+    if !table::long_enough(heads, triples, size) {
         return Recheck::Short;
     }
     let q = m.startstate as usize;
     let g = m.startsymbol as usize;
-    if !has_head(heads, size, q, g) {
+    if !kept::has_head(heads, size, q, g) {
         return Recheck::NoStart;
     }
-    if !heads_clean(heads, &m.finals, size) {
-        return Recheck::Violating;
-    }
-    if !ends_clean(triples, &m.finals, size, q, g) {
+    if !culprit::is_clean(&m.finals, heads, triples, size, q, g) {
         return Recheck::Violating;
     }
     let found = open_step(

@@ -1,11 +1,7 @@
--- A cell's number does not wrap, since its parts are bytes; and the rules by which tests on numbers are closed. Assumes nothing.
+-- A cell's number does not wrap, since its parts are bytes. Assumes nothing.
 use Prim.Native.Nat.{ℕ, _+_, _*_, _<_, _≤_}
 use native.Mathlib.Nat.{mul-le-mul}
 use native.Mathlib.Omega.{arith}
-use borrow.Author.Needs.{needs}
-use borrow.Author.Tests.{lt-ltb, le-ltb, le-leb, lt-leb, eq-eqb, ne-eqb}
-
-pub ruleset tests = (needs, lt-ltb, le-ltb, le-leb, lt-leb, eq-eqb, ne-eqb)
 
 -- a row and a place in it
 pub cell-small : {a b c : ℕ} (A : ℕ) → a ≤ A → b < 256 → c < 256 → a * b + c ≤ A * 255 + 255

@@ -1,5 +1,5 @@
--- A cell that is read or put, and clearing cell by cell. Assumes nothing.
-use mathlib.Core.Bool.{Bool, true, cond, _&&_}
+-- The numbers of a fact in range, and clearing cell by cell. Assumes nothing.
+use mathlib.Core.Bool.{true, _&&_}
 use mathlib.Core.List.{List}
 use mathlib.Core.Path.{_≡_, refl, sym, ap, _∙_}
 use Prim.Native.Nat.{ℕ, zero, suc, _+_, _<_, _≤_}
@@ -8,7 +8,7 @@ use native.Mathlib.Numerals.{add-one}
 use native.Mathlib.Omega.{arith}
 use borrow.Author.Tests.{lt-ltb}
 use lib.Dec.{ltb}
-use lib.ListN.{length, getD, set, length-set, List·getD-eq-default}
+use lib.ListN.{length, set, length-set}
 use lib.Seq.{set-out}
 use Rattle.product.specs.Table.{absent}
 use Rattle.table.specs.Cells.{cleared}
@@ -19,20 +19,6 @@ head-inside {G} {Q} {q} {g} i j = rw (lt-ltb q Q i, lt-ltb g G j)
 
 pub triple-inside : {G Q q g e : ℕ} → q < Q → g < G → e < Q → (ltb q Q && ltb g G && ltb e Q) ≡ true
 triple-inside {G} {Q} {q} {g} {e} i j k = rw (lt-ltb q Q i, lt-ltb g G j, lt-ltb e Q k)
-
--- the cell of number i, of a fact that is in range: past the array, and in it
-module _ {b : Bool} (t : b ≡ true) {i k : ℕ} (e : i ≡ k) (xs : List ℕ) where
-  pub read-past : (d : ℕ) → length xs ≤ i → 0 ≡ cond b (getD xs k 0) d
-  read-past d l = rw (t, ← e) (sym (List·getD-eq-default xs 0 l))
-
-  pub read-cell : (d : ℕ) → getD xs i 0 ≡ cond b (getD xs k 0) d
-  read-cell d = rw (t, e)
-
-  pub put-past : (n : ℕ) → length xs ≤ i → xs ≡ cond b (set xs k n) xs
-  put-past n l = rw (t, ← e) (sym (set-out xs i n l))
-
-  pub put-cell : (n : ℕ) → set xs i n ≡ cond b (set xs k n) xs
-  put-cell n = rw (t, e)
 
 pub cleared-none : (xs : List ℕ) → xs ≡ cleared 0 xs
 unfolding cleared

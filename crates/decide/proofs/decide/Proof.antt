@@ -1,6 +1,6 @@
 -- `decide::decide` meets its contract. Assumes nothing.
 use borrow.Author.Needs.{needs}
-use Rattle.decide.proofs.Tested.{invalid, few-heads, few-triples, ready, done}
+use Rattle.decide.proofs.Tested.{invalid, short, ready, done}
 use Rattle.decide.proofs.decide.Statement.{statement}
 use Rattle.decide.proofs.decide.Tie as tie
 
@@ -12,26 +12,8 @@ returns c =
     let a = c .before .before .before .before .args in
     invalid (a .m) (a .budget) (a .heads .now) (a .triples .now) (c .before .is-valid .ensures) (c .if1 .taken)
 
-head-count-requires : tie.Need-head-count-requires
-head-count-requires c κs = search needs
-
-returns-2 : tie.Need-returns-2
-returns-2 c =
-    let a = c .before .before .before .before .before .before .args in
-    few-heads (a .m) (a .budget) (a .heads .now) (a .triples .now) (c .before .before .before .is-valid .ensures) (c .before .before .if1 .left) (c .before .head-count .ensures) (c .if2 .taken)
-
-triple-count-requires : tie.Need-triple-count-requires
-triple-count-requires c κs = search needs
-
-returns-3 : tie.Need-returns-3
-returns-3 c =
-    let a = c .before .before .before .before .before .before .before .before .args in
-    few-triples (a .m) (a .budget) (a .heads .now) (a .triples .now) (c .before .before .before .before .before .is-valid .ensures) (c .before .before .before .before .if1 .left) (c .before .before .before .head-count .ensures) (c .before .before .if2 .left) (c .before .triple-count .ensures) (c .if3 .taken)
-
-run-requires : tie.Need-run-requires
-run-requires c κs =
-    let a = c .before .before .before .before .before .before .before .before .before .before .args in
-    ready (a .m) (a .budget) (a .heads .now) (a .triples .now) (c .before .before .before .before .before .before .before .is-valid .ensures) (c .before .before .before .before .before .before .if1 .left) (c .before .before .before .before .before .head-count .ensures) (c .before .before .before .before .if2 .left) (c .before .before .before .triple-count .ensures) (c .before .before .if3 .left)
+long-enough-requires : tie.Need-long-enough-requires
+long-enough-requires c κs = search needs
 
 same-length : tie.Need-same-length
 same-length c = search needs
@@ -39,10 +21,26 @@ same-length c = search needs
 same-length-2 : tie.Need-same-length-2
 same-length-2 c = search needs
 
-returns-4 : tie.Need-returns-4
-returns-4 c =
+returns-2 : tie.Need-returns-2
+returns-2 c =
+    let a = c .before .before .before .before .before .before .before .before .args in
+    short (a .m) (a .budget) (a .heads .now) (a .triples .now) (c .before .before .before .before .before .is-valid .ensures) (c .before .before .before .before .if1 .left) (c .before .long-enough .ensures) (c .if2 .taken)
+
+run-requires : tie.Need-run-requires
+run-requires c κs =
+    let a = c .before .before .before .before .before .before .before .before .before .before .args in
+    ready (a .m) (a .budget) (a .heads .now) (a .triples .now) (c .before .before .before .before .before .before .before .is-valid .ensures) (c .before .before .before .before .before .before .if1 .left) (c .before .before .before .long-enough .ensures) (c .before .before .if2 .left)
+
+same-length-3 : tie.Need-same-length-3
+same-length-3 c = search needs
+
+same-length-4 : tie.Need-same-length-4
+same-length-4 c = search needs
+
+returns-3 : tie.Need-returns-3
+returns-3 c =
     let a = c .before .before .before .before .before .before .before .before .before .before .before .before .before .before .before .args in
-    done (a .m) (a .budget) (a .heads .now) (a .triples .now) (c .before .before .before .before .before .before .before .before .before .before .before .before .is-valid .ensures) (c .before .before .before .before .before .before .before .before .before .before .before .if1 .left) (c .before .before .before .before .before .before .before .before .before .before .head-count .ensures) (c .before .before .before .before .before .before .before .before .before .if2 .left) (c .before .before .before .before .before .before .before .before .triple-count .ensures) (c .before .before .before .before .before .before .before .if3 .left) (c .before .before .before .before .run .ensures)
+    done (a .m) (a .budget) (a .heads .now) (a .triples .now) (c .before .before .before .before .before .before .before .before .before .before .before .before .is-valid .ensures) (c .before .before .before .before .before .before .before .before .before .before .before .if1 .left) (c .before .before .before .before .before .before .before .before .long-enough .ensures) (c .before .before .before .before .before .before .before .if2 .left) (c .before .before .before .before .run .ensures)
 
 pub decide-spec : {M : Type 1} → statement M
 decide-spec =
@@ -50,11 +48,11 @@ decide-spec =
     (tie.spec
     is-valid-requires
     returns
-    head-count-requires
-    returns-2
-    triple-count-requires
-    returns-3
-    run-requires
+    long-enough-requires
     same-length
     same-length-2
-    returns-4)
+    returns-2
+    run-requires
+    same-length-3
+    same-length-4
+    returns-3)

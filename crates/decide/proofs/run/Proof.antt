@@ -28,8 +28,8 @@ start-requires c κs = search needs
 loop-holds : tie.Need-loop-holds Inv-loop μ-loop
 loop-holds c = (omega arith, refl, refl, from-start (c .before .before .before .before .before .before .before .before .before .pre) (c .before .before .before .before .start .ensures) (c .before .before .before .before .before .before .before .before .before .args .budget))
 
-clean-requires : tie.Need-clean-requires Inv-loop μ-loop
-clean-requires c κs = search needs
+is-clean-requires : tie.Need-is-clean-requires Inv-loop μ-loop
+is-clean-requires c κs = search needs
 
 same-length : tie.Need-same-length Inv-loop μ-loop
 same-length c = search needs
@@ -38,7 +38,7 @@ same-length-2 : tie.Need-same-length-2 Inv-loop μ-loop
 same-length-2 c = search needs
 
 returns : tie.Need-returns Inv-loop μ-loop
-returns c = violates (c .before .before .before .before .before .before .before .before .before .before .before .before .before .before .before .before .pre) (c .before .before .before .before .before .before .before .before .before .before .before .start .ensures) (c .before .before .before .before .before .before .loop .inv .3) (c .before .clean .ensures) (c .if1 .taken)
+returns c = violates (c .before .before .before .before .before .before .before .before .before .before .before .before .before .before .before .before .pre) (c .before .before .before .before .before .before .before .before .before .before .before .start .ensures) (c .before .before .before .before .before .before .loop .inv .3) (c .before .is-clean .ensures) (c .if1 .taken)
 
 quiet-requires : tie.Need-quiet-requires Inv-loop μ-loop
 quiet-requires c κs = search needs
@@ -50,7 +50,7 @@ same-length-4 : tie.Need-same-length-4 Inv-loop μ-loop
 same-length-4 c = search needs
 
 returns-2 : tie.Need-returns-2 Inv-loop μ-loop
-returns-2 c = is-safe (c .before .before .before .before .before .before .before .before .before .before .before .before .before .before .before .before .before .before .before .before .pre) (c .before .before .before .before .before .before .before .before .before .before .before .before .before .before .before .start .ensures) (c .before .before .before .before .before .before .before .before .before .before .loop .inv .3) (c .before .before .before .before .before .clean .ensures) (c .before .before .before .before .if1 .left) (c .before .quiet .ensures) (c .if2 .taken)
+returns-2 c = is-safe (c .before .before .before .before .before .before .before .before .before .before .before .before .before .before .before .before .before .before .before .before .pre) (c .before .before .before .before .before .before .before .before .before .before .before .before .before .before .before .start .ensures) (c .before .before .before .before .before .before .before .before .before .before .loop .inv .3) (c .before .before .before .before .before .is-clean .ensures) (c .before .before .before .before .if1 .left) (c .before .quiet .ensures) (c .if2 .taken)
 
 cast-if3 : tie.Need-cast-if3 Inv-loop μ-loop
 cast-if3 c = search needs
@@ -62,7 +62,7 @@ same-length-6 : tie.Need-same-length-6 Inv-loop μ-loop
 same-length-6 c = search needs
 
 returns-3 : tie.Need-returns-3 Inv-loop μ-loop
-returns-3 c = is-spent (c .before .before .before .before .before .before .before .before .before .before .before .before .before .before .before .before .before .before .before .before .before .pre) (c .before .before .before .before .before .before .before .before .before .before .before .before .before .before .before .before .start .ensures) (c .before .before .before .before .before .before .before .before .before .before .before .loop .inv .3) (c .before .before .before .before .before .before .clean .ensures) (c .before .before .before .before .before .if1 .left) (c .before .before .quiet .ensures) (c .before .if2 .left) (c .if3 .taken)
+returns-3 c = is-spent (c .before .before .before .before .before .before .before .before .before .before .before .before .before .before .before .before .before .before .before .before .before .pre) (c .before .before .before .before .before .before .before .before .before .before .before .before .before .before .before .before .start .ensures) (c .before .before .before .before .before .before .before .before .before .before .before .loop .inv .3) (c .before .before .before .before .before .before .is-clean .ensures) (c .before .before .before .before .before .if1 .left) (c .before .before .quiet .ensures) (c .before .if2 .left) (c .if3 .taken)
 
 add-n : tie.Need-add-n Inv-loop μ-loop
 add-n c = search needs
@@ -78,7 +78,7 @@ loop-again c =
     let p = c .before .before .before .before .before .before .before .before .before .before .before .before .before .before .before .before .before .before .before .before .before .before .before .before .before .before .before .before .pre in
     let s = c .before .before .before .before .before .before .before .before .before .before .before .before .before .before .before .before .before .before .before .before .before .before .before .start .ensures in
     let g = c .before .before .before .before .before .before .before .before .before .before .before .before .before .before .before .before .before .before .loop .inv in
-    let l = c .before .before .before .before .before .before .before .before .before .before .before .before .before .clean .ensures in
+    let l = c .before .before .before .before .before .before .before .before .before .before .before .before .before .is-clean .ensures in
     let q = c .before .before .before .before .before .before .before .before .before .quiet .ensures in (
       omega (arith, room p s (g .3) l (c .before .before .before .before .before .before .before .before .before .before .before .before .if1 .left) q (c .before .before .before .before .before .before .before .before .if2 .left)),
       c .before .before .before .before .round .kept .0 ∙ g .1,
@@ -96,7 +96,7 @@ run-spec =
     cast-g
     start-requires
     loop-holds
-    clean-requires
+    is-clean-requires
     same-length
     same-length-2
     returns

@@ -1,7 +1,7 @@
 -- `recheck::check_table` meets its contract: at each of its ends the answer follows from the tests before. Assumes nothing.
-use denote.Ref.{now}
-use Rattle.recheck.proofs.Reasons.{is-invalid, is-short, has-no-start, has-violating-head, has-violating-end, is-open, is-accepted}
 use borrow.Author.Needs.{needs}
+use denote.Ref.{now}
+use Rattle.recheck.proofs.Reasons.{is-invalid, is-short, has-no-start, has-violating, is-open, is-accepted}
 use Rattle.recheck.proofs.check_table.Statement.{statement}
 use Rattle.recheck.proofs.check_table.Tie as tie
 
@@ -35,21 +35,13 @@ returns-3 c =
     let a = c .before .before .before .before .before .before .before .before .args in
     has-no-start (a .t1) (now (a .heads)) (now (a .triples)) (c .before .before .before .before .before .is-valid .ensures) (c .before .before .before .before .if1 .left) (c .before .before .before .long-enough .ensures) (c .before .before .if2 .left) (c .before .has-head .ensures) (c .if3 .taken)
 
-heads-clean-requires : tie.Need-heads-clean-requires
-heads-clean-requires c κs = search needs
+is-clean-requires : tie.Need-is-clean-requires
+is-clean-requires c κs = search needs
 
 returns-4 : tie.Need-returns-4
 returns-4 c =
     let a = c .before .before .before .before .before .before .before .before .before .before .before .before .args in
-    has-violating-head (a .t1) (now (a .heads)) (now (a .triples)) (c .before .before .before .before .before .before .before .before .before .is-valid .ensures) (c .before .before .before .before .before .before .before .before .if1 .left) (c .before .before .before .before .before .before .before .long-enough .ensures) (c .before .before .before .before .before .before .if2 .left) (c .before .before .before .before .before .has-head .ensures) (c .before .before .before .before .if3 .left) (c .before .heads-clean .ensures) (c .if4 .taken)
-
-ends-clean-requires : tie.Need-ends-clean-requires
-ends-clean-requires c κs = search needs
-
-returns-5 : tie.Need-returns-5
-returns-5 c =
-    let a = c .before .before .before .before .before .before .before .before .before .before .before .before .before .before .before .before .args in
-    has-violating-end (a .t1) (now (a .heads)) (now (a .triples)) (c .before .before .before .before .before .before .before .before .before .before .before .before .before .is-valid .ensures) (c .before .before .before .before .before .before .before .before .before .before .before .before .if1 .left) (c .before .before .before .before .before .before .before .before .before .before .before .long-enough .ensures) (c .before .before .before .before .before .before .before .before .before .before .if2 .left) (c .before .before .before .before .before .before .before .before .before .has-head .ensures) (c .before .before .before .before .before .before .before .before .if3 .left) (c .before .before .before .before .before .heads-clean .ensures) (c .before .before .before .before .if4 .left) (c .before .ends-clean .ensures) (c .if5 .taken)
+    has-violating (a .t1) (now (a .heads)) (now (a .triples)) (c .before .before .before .before .before .before .before .before .before .is-valid .ensures) (c .before .before .before .before .before .before .before .before .if1 .left) (c .before .before .before .before .before .before .before .long-enough .ensures) (c .before .before .before .before .before .before .if2 .left) (c .before .before .before .before .before .has-head .ensures) (c .before .before .before .before .if3 .left) (c .before .is-clean .ensures) (c .if4 .taken)
 
 open-step-requires : tie.Need-open-step-requires
 open-step-requires c κs = search needs
@@ -60,15 +52,15 @@ enum-known-found c = search needs
 enum-told : tie.Need-enum-told
 enum-told c = search needs
 
+returns-5 : tie.Need-returns-5
+returns-5 c =
+    let a = c .before .before .before .before .before .before .before .before .before .before .before .before .before .before .before .before .before .before .before .before .args in
+    is-open (a .t1) (now (a .heads)) (now (a .triples)) (c .before .before .before .before .before .before .before .before .before .before .before .before .before .before .before .before .before .is-valid .ensures) (c .before .before .before .before .before .before .before .before .before .before .before .before .before .before .before .before .if1 .left) (c .before .before .before .before .before .before .before .before .before .before .before .before .before .before .before .long-enough .ensures) (c .before .before .before .before .before .before .before .before .before .before .before .before .before .before .if2 .left) (c .before .before .before .before .before .before .before .before .before .before .before .before .before .has-head .ensures) (c .before .before .before .before .before .before .before .before .before .before .before .before .if3 .left) (c .before .before .before .before .before .before .before .before .before .is-clean .ensures) (c .before .before .before .before .before .before .before .before .if4 .left) (c .before .before .before .open-step .ensures) (c .before .found .given .1)
+
 returns-6 : tie.Need-returns-6
 returns-6 c =
-    let a = c .before .before .before .before .before .before .before .before .before .before .before .before .before .before .before .before .before .before .before .before .before .before .before .before .args in
-    is-open (a .t1) (now (a .heads)) (now (a .triples)) (c .before .before .before .before .before .before .before .before .before .before .before .before .before .before .before .before .before .before .before .before .before .is-valid .ensures) (c .before .before .before .before .before .before .before .before .before .before .before .before .before .before .before .before .before .before .before .before .if1 .left) (c .before .before .before .before .before .before .before .before .before .before .before .before .before .before .before .before .before .before .before .long-enough .ensures) (c .before .before .before .before .before .before .before .before .before .before .before .before .before .before .before .before .before .before .if2 .left) (c .before .before .before .before .before .before .before .before .before .before .before .before .before .before .before .before .before .has-head .ensures) (c .before .before .before .before .before .before .before .before .before .before .before .before .before .before .before .before .if3 .left) (c .before .before .before .before .before .before .before .before .before .before .before .before .before .heads-clean .ensures) (c .before .before .before .before .before .before .before .before .before .before .before .before .if4 .left) (c .before .before .before .before .before .before .before .before .before .ends-clean .ensures) (c .before .before .before .before .before .before .before .before .if5 .left) (c .before .before .before .open-step .ensures) (c .before .found .given .1)
-
-returns-7 : tie.Need-returns-7
-returns-7 c =
-    let a = c .before .before .before .before .before .before .before .before .before .before .before .before .before .before .before .before .before .before .before .before .before .before .before .args in
-    is-accepted (a .t1) (now (a .heads)) (now (a .triples)) (c .before .before .before .before .before .before .before .before .before .before .before .before .before .before .before .before .before .before .before .before .is-valid .ensures) (c .before .before .before .before .before .before .before .before .before .before .before .before .before .before .before .before .before .before .before .if1 .left) (c .before .before .before .before .before .before .before .before .before .before .before .before .before .before .before .before .before .before .long-enough .ensures) (c .before .before .before .before .before .before .before .before .before .before .before .before .before .before .before .before .before .if2 .left) (c .before .before .before .before .before .before .before .before .before .before .before .before .before .before .before .before .has-head .ensures) (c .before .before .before .before .before .before .before .before .before .before .before .before .before .before .before .if3 .left) (c .before .before .before .before .before .before .before .before .before .before .before .before .heads-clean .ensures) (c .before .before .before .before .before .before .before .before .before .before .before .if4 .left) (c .before .before .before .before .before .before .before .before .ends-clean .ensures) (c .before .before .before .before .before .before .before .if5 .left) (c .before .before .open-step .ensures) (c .enum-told .given .1)
+    let a = c .before .before .before .before .before .before .before .before .before .before .before .before .before .before .before .before .before .before .before .args in
+    is-accepted (a .t1) (now (a .heads)) (now (a .triples)) (c .before .before .before .before .before .before .before .before .before .before .before .before .before .before .before .before .is-valid .ensures) (c .before .before .before .before .before .before .before .before .before .before .before .before .before .before .before .if1 .left) (c .before .before .before .before .before .before .before .before .before .before .before .before .before .before .long-enough .ensures) (c .before .before .before .before .before .before .before .before .before .before .before .before .before .if2 .left) (c .before .before .before .before .before .before .before .before .before .before .before .before .has-head .ensures) (c .before .before .before .before .before .before .before .before .before .before .before .if3 .left) (c .before .before .before .before .before .before .before .before .is-clean .ensures) (c .before .before .before .before .before .before .before .if4 .left) (c .before .before .open-step .ensures) (c .enum-told .given .1)
 
 pub check-table-spec : {M : Type 1} → statement M
 check-table-spec =
@@ -82,12 +74,10 @@ check-table-spec =
     cast-g
     has-head-requires
     returns-3
-    heads-clean-requires
+    is-clean-requires
     returns-4
-    ends-clean-requires
-    returns-5
     open-step-requires
     enum-known-found
     enum-told
-    returns-6
-    returns-7)
+    returns-5
+    returns-6)

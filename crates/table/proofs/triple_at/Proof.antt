@@ -1,55 +1,22 @@
 -- `table::triple_at` meets its contract. Assumes nothing.
 use borrow.Author.Needs.{needs}
-use Rattle.table.proofs.Bytes.{tests}
-use Rattle.table.proofs.Cells.{triple-inside, read-past, read-cell}
+use mathlib.Core.Bool.{_&&_}
+use lib.Dec.{ltb}
+use Rattle.table.specs.Cells.{tripleCell}
+use Rattle.table.proofs.Places.{rank-read}
 use Rattle.table.proofs.triple_at.Statement.{statement}
 use Rattle.table.proofs.triple_at.Tie as tie
 
-cast-if1 : tie.Need-cast-if1
-cast-if1 c = search needs
+triple-place-requires : tie.Need-triple-place-requires
+triple-place-requires c κs = search needs
+
+read-requires : tie.Need-read-requires
+read-requires c κs = search needs
 
 returns : tie.Need-returns
-returns c = search tests
-
-cast-if2 : tie.Need-cast-if2
-cast-if2 c = search needs
-
-returns-2 : tie.Need-returns-2
-returns-2 c = search tests
-
-cast-if3 : tie.Need-cast-if3
-cast-if3 c = search needs
-
-returns-3 : tie.Need-returns-3
-returns-3 c = search tests
-
-triple-cell-requires : tie.Need-triple-cell-requires
-triple-cell-requires c κs = search needs
-
-returns-4 : tie.Need-returns-4
-returns-4 c = read-past (triple-inside (c .before .before .before .before .before .before .if1 .left) (c .before .before .before .before .if2 .left) (c .before .before .if3 .left)) (c .before .triple-cell .ensures) (c .before .before .before .before .before .before .before .before .before .args .triples .now) 65535 (c .if4 .taken)
-
-mul-result : tie.Need-mul-result
-mul-result c = search needs
-
-shared-slice-read-result : tie.Need-shared-slice-read-result
-shared-slice-read-result c = search needs
-
-returns-5 : tie.Need-returns-5
-returns-5 c = read-cell (triple-inside (c .before .before .before .before .before .before .before .if1 .left) (c .before .before .before .before .before .if2 .left) (c .before .before .before .if3 .left)) (c .before .before .triple-cell .ensures) (c .before .before .before .before .before .before .before .before .before .before .args .triples .now) 65535
+returns c =
+    let a = c .before .before .before .args in
+    rank-read (ltb (a .q) (a .size .states) && ltb (a .g) (a .size .symbols) && ltb (a .e) (a .size .states)) (tripleCell (a .size .symbols) (a .size .states) (a .q) (a .g) (a .e)) (a .triples .now) (c .before .triple-place .ensures) (c .read .ensures)
 
 pub triple-at-spec : {M : Type 1} → statement M
-triple-at-spec =
-    tie.close
-    (tie.spec
-    cast-if1
-    returns
-    cast-if2
-    returns-2
-    cast-if3
-    returns-3
-    triple-cell-requires
-    returns-4
-    mul-result
-    shared-slice-read-result
-    returns-5)
+triple-at-spec = tie.close (tie.spec triple-place-requires read-requires returns)

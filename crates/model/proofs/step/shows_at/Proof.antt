@@ -8,7 +8,7 @@ use denote.Ref.{now}
 use borrow.Author.Needs.{needs}
 use borrow.Author.Tests.{eq-eqb}
 use Rattle.model.specs.Model.{showsAt}
-use Rattle.model.proofs.Rows.{shows-cell, shows-past}
+use Rattle.model.proofs.Places.{shows-cell, shows-past}
 use Rattle.model.proofs.step.shows_at.Statement.{statement}
 use Rattle.model.proofs.step.shows_at.Tie as tie
 use Rattle.model.proofs.step.shows_at.Reads as reads

@@ -5,9 +5,10 @@ use mathlib.Core.Path.{_≡_, refl, sym, ap}
 use Prim.Native.Nat.{_-_, _≤_}
 use denote.Ref.{now}
 use Rattle.product.specs.Lists.{upTo, each, find}
-use Rattle.recheck.specs.Recheck.{inTable}
+use Rattle.culprit.proofs.First.{find-more, find-here}
+use Rattle.kept.specs.Kept.{inTable}
 use Rattle.recheck.specs.Tests.{step, isClosed, isOpen, foundAs}
-use Rattle.recheck.proofs.Search.{find-more, find-here, hit, miss, nowhere}
+use Rattle.recheck.proofs.Search.{hit, miss, nowhere}
 use borrow.Author.Needs.{needs}
 use Rattle.recheck.proofs.closed.open_move.Statement.{statement}
 use Rattle.recheck.proofs.closed.open_move.Tie as tie
@@ -28,7 +29,7 @@ returns : tie.Need-returns Inv-loop μ-loop
 returns c =
     let a = c .before .before .before .before .before .before .args in
     let v = c .before .before .before .loop .v in
-    sym (ap foundAs (find-here (isOpen (now (a .rulerows)) (now (a .moverows)) (now (a .shows)) (a .size .states) (inTable (a .size) (now (a .heads)) (now (a .triples)))) (λ v. step (a .r) v ∷ []) (a .moves) v (search needs) (c .before .before .before .loop .inv .1) (hit (isClosed (now (a .rulerows)) (now (a .moverows)) (now (a .shows)) (a .size .states) (inTable (a .size) (now (a .heads)) (now (a .triples)))) (step (a .r) v) (c .before .steps-kept .ensures) (c .if1 .taken))))
+    sym (ap foundAs (find-here (isOpen (now (a .rulerows)) (now (a .moverows)) (now (a .shows)) (a .size .states) (inTable (a .size) (now (a .heads)) (now (a .triples)))) (λ v. step (a .r) v ∷ []) (a .moves) v (step (a .r) v) (search needs) (c .before .before .before .loop .inv .1) (hit (isClosed (now (a .rulerows)) (now (a .moverows)) (now (a .shows)) (a .size .states) (inTable (a .size) (now (a .heads)) (now (a .triples)))) (step (a .r) v) (c .before .steps-kept .ensures) (c .if1 .taken))))
 
 add-v : tie.Need-add-v Inv-loop μ-loop
 add-v c = search needs

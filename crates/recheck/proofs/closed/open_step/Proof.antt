@@ -4,9 +4,10 @@ use mathlib.Core.Path.{_≡_, refl, sym, ap}
 use Prim.Native.Nat.{_-_, _≤_}
 use denote.Ref.{now}
 use Rattle.product.specs.Lists.{upTo, over, each, find}
-use Rattle.recheck.specs.Recheck.{inTable}
+use Rattle.culprit.proofs.First.{find-more, find-here}
+use Rattle.kept.specs.Kept.{inTable}
 use Rattle.recheck.specs.Tests.{step, isOpen, foundAs}
-use Rattle.recheck.proofs.Search.{find-more, find-here, found-some, found-none, nowhere}
+use Rattle.recheck.proofs.Search.{found-some, found-none, nowhere}
 use borrow.Author.Needs.{needs}
 use Rattle.recheck.proofs.closed.open_step.Statement.{statement}
 use Rattle.recheck.proofs.closed.open_step.Tie as tie
@@ -30,7 +31,7 @@ returns : tie.Need-returns Inv-loop μ-loop
 returns c =
     let a = c .before .before .before .before .before .before .before .before .args in
     let r = c .before .before .before .before .before .loop .r in
-    sym (ap foundAs (find-here (isOpen (now (a .rulerows)) (now (a .moverows)) (now (a .shows)) (a .size .states) (inTable (a .size) (now (a .heads)) (now (a .triples)))) (λ r. each (upTo (a .moves)) (step r)) (a .rules) r (search needs) (c .before .before .before .before .before .loop .inv .1) (found-some (find (isOpen (now (a .rulerows)) (now (a .moverows)) (now (a .shows)) (a .size .states) (inTable (a .size) (now (a .heads)) (now (a .triples)))) (each (upTo (a .moves)) (step r))) (c .before .before .before .open-move .ensures) (c .before .found .given .1))))
+    sym (ap foundAs (find-here (isOpen (now (a .rulerows)) (now (a .moverows)) (now (a .shows)) (a .size .states) (inTable (a .size) (now (a .heads)) (now (a .triples)))) (λ r. each (upTo (a .moves)) (step r)) (a .rules) r (step (c .before .found .given .0 .0) (c .before .found .given .0 .1 .0)) (search needs) (c .before .before .before .before .before .loop .inv .1) (found-some (find (isOpen (now (a .rulerows)) (now (a .moverows)) (now (a .shows)) (a .size .states) (inTable (a .size) (now (a .heads)) (now (a .triples)))) (each (upTo (a .moves)) (step r))) (c .before .before .before .open-move .ensures) (c .before .found .given .1))))
 
 enum-told : tie.Need-enum-told Inv-loop μ-loop
 enum-told c = search needs
