@@ -1,19 +1,10 @@
 // Reads a model on standard input and writes the verdict with its evidence. All of the output is made by `report`, which is proved;
 // here it is only read and written. One byte more than the largest text is enough to see that a text is too long.
 use libc::STDIN_FILENO;
-use libc::STDOUT_FILENO;
-
-// Writes the first k bytes.
-fn write_front(out: &[u8], k: usize) {
-    if out.len() < k {
-        return;
-    }
-    io::write_all(STDOUT_FILENO, &out[..k]);
-}
 
 fn write_answer(text: &[u8], out: &mut [u8]) {
     let k = report::check_text(text, out);
-    write_front(out, k);
+    output::write_front(out, k);
 }
 
 fn main() {

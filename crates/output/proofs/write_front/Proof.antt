@@ -1,10 +1,10 @@
--- `pdrecheck::write_front` meets its contract. Assumes nothing.
+-- `output::write_front` meets its contract. Assumes nothing.
 use mathlib.Core.Path.{sym}
 use lib.Seq.{length-take-le}
 use native.Mathlib.Omega.{arith}
 use borrow.Author.Needs.{needs}
-use Rattle.pdrecheck.proofs.write_front.Statement.{statement}
-use Rattle.pdrecheck.proofs.write_front.Tie as tie
+use Rattle.output.proofs.write_front.Statement.{statement}
+use Rattle.output.proofs.write_front.Tie as tie
 
 returns : tie.Need-returns
 returns c = search needs
