@@ -46,6 +46,7 @@ each-answer = record {
   triple-count = λ z. equal _;
   start = λ m heads triples. cells _;
   round = λ m k heads triples. cells _;
+  front = λ out k. equal _;
   put-refused = λ out number line. put out 0 _;
   check-text = λ out text. put out 0 _;
   recheck-text = λ out text. put out 0 _;

@@ -4,7 +4,7 @@ use mathlib.Core.Bool.{Bool}
 use mathlib.Core.List.{List, [], _∷_}
 use mathlib.Core.Path.{_≡_}
 use Prim.Native.Nat.{ℕ, _*_}
-use lib.ListN.{length}
+use lib.ListN.{length, take}
 use Rattle.product.specs.Lists.{over}
 use Rattle.text.specs.Split.{first, split, sameBytes}
 use Rattle.text.specs.Number.{numberOf, numbersOf}
@@ -66,6 +66,8 @@ pub record OneAnswer : Type 0 where
   pub triple-count : (z : Size) → One (λ n. n ≡ z .states * z .symbols * z .states)
   pub start : (m : Model) (heads triples : List ℕ) → Both (λ hs ts. arrays hs ts ≡ startOf m (arrays heads triples))
   pub round : (m : Model) (k : ℕ) (heads triples : List ℕ) → Both (λ hs ts. arrays hs ts ≡ roundOf m k (arrays heads triples))
+  -- output
+  pub front : (out : List ℕ) (k : ℕ) → One (λ part. part ≡ take k out)
   -- report and rereport
   pub put-refused : (out : List ℕ) (number line : ℕ) → Both (λ r after. Put out after 0 r (refusedBytes number line))
   pub check-text : (out text : List ℕ) → Both (λ r after. Put out after 0 r (checkOutput text))

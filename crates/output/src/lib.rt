@@ -1,10 +1,14 @@
-// Writing the answer that was made in lent memory.
-use libc::STDOUT_FILENO;
+// The part of lent memory that holds an answer.
+ghost use mathlib.Core.Path.{_≡_};
+ghost use lib.ListN.{take};
 
-// Writes the first k bytes on standard output; nothing where there are fewer.
-pub fn write_front(out: &[u8], k: usize) {
-    if out.len() < k {
-        return;
+// The first k bytes, or all where there are fewer.
+pub fn front(out: &[u8], k: usize) -> &[u8]
+    ensures { λ r. ⌜ now r ≡ take k (now (out .entry)) ⌝ }
+{
+    let room = out.len();
+    if room < k {
+        return out;
     }
-    io::write_all(STDOUT_FILENO, &out[..k]);
+    &out[..k]
 }
