@@ -2,6 +2,7 @@
 // the lent cells afterwards, also past the table. Standard input is a row of texts, each behind a line of numbers: its length alone where it
 // is only read; else also the budget, the room and which array is too short (1 heads, 2 triples, 3 the replay's stack). tests/expected.py
 // makes it, and says by the second program what is to be written.
+ghost use Prim.Native.Nat.{_≤_};
 use decide::Decision;
 use libc::STDIN_FILENO;
 use model::Model;
@@ -143,47 +144,47 @@ fn call_trace(
     show_steps(m, room, k, stack);
 }
 
-fn in_room(
+fn call_both(
     m: Model,
     budget: u32,
     heads: &mut [u16],
     triples: &mut [u16],
-    steps: &mut [u16],
-    room: usize,
+    room: &mut [u16],
     stack: &mut [u8],
 ) {
     call_all(m, budget, heads, triples);
-    if steps.len() < room {
-        return;
-    }
-    call_trace(m, budget, heads, triples, &mut steps[..room], stack);
+    call_trace(m, budget, heads, triples, room, stack);
 }
 
-fn with_heads(m: Model, budget: u32, heads: &mut [u16], room: usize, short: u32) {
-    let mut triples = [7u16; 2060];
-    let mut steps = [9u16; 8200];
-    let mut stack = [5u8; 8300];
-    if short == 2 {
-        let mut few = [7u16; 0];
-        in_room(m, budget, heads, &mut few, &mut steps, room, &mut stack);
-        return;
+// How many cells an array has: n, or none where it is the one that is too short.
+fn kept(short: u32, which: u32, n: usize) -> usize
+    ensures { λ k. ⌜ k ≤ n ⌝ }
+{
+    if short == which {
+        return 0;
     }
-    if short == 3 {
-        let mut low = [5u8; 0];
-        in_room(m, budget, heads, &mut triples, &mut steps, room, &mut low);
-        return;
-    }
-    in_room(m, budget, heads, &mut triples, &mut steps, room, &mut stack);
+    n
 }
 
-fn with_room(m: Model, budget: u32, room: usize, short: u32) {
-    if short == 1 {
-        let mut few = [7u16; 0];
-        with_heads(m, budget, &mut few, room, short);
+fn with_arrays(m: Model, budget: u32, room: usize, short: u32) {
+    if 8200 < room {
         return;
     }
     let mut heads = [7u16; 260];
-    with_heads(m, budget, &mut heads, room, short);
+    let mut triples = [7u16; 2060];
+    let mut steps = [9u16; 8200];
+    let mut stack = [5u8; 8300];
+    let h = kept(short, 1, 260);
+    let t = kept(short, 2, 2060);
+    let k = kept(short, 3, 8300);
+    call_both(
+        m,
+        budget,
+        &mut heads[..h],
+        &mut triples[..t],
+        &mut steps[..room],
+        &mut stack[..k],
+    );
 }
 
 // A text is read; and the calls are made where four numbers are given.
@@ -197,7 +198,7 @@ fn answer(part: &[u8], numbers: Numbers) {
     let given = numbers.at;
     let budget = given[1];
     let room = whole(given[2]);
-    with_room(m, budget, room, given[3]);
+    with_arrays(m, budget, room, given[3]);
 }
 
 // The place after the text that is announced at the front of s, or 0 where there is none.
