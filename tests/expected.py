@@ -1,5 +1,5 @@
 #!/usr/bin/env python3
-"""Writes what the test programs read and must write, by the second program; with --check only says whether the stored files are those.
+"""Writes what the test program reads and must write, by the second program; with --check only says whether the stored files are those.
 
     python3 tests/expected.py [--check]
 
@@ -26,10 +26,6 @@ def texts():
         if len(data) < 16384 or name in LARGEST:
             seen.append(data)
     return seen
-
-
-def container(parts):
-    return b"".join(b"%d\n" % len(part) + part for part in parts)
 
 
 def reading(data):
@@ -136,12 +132,10 @@ def called(data, budget, room, short):
 
 
 def files():
-    parts = texts()
-    yield "crates/readings/stdin", container(parts)
-    yield "crates/readings/stdout", b"".join(reading(part) for part in parts)
-    made = list(calls())
-    yield "crates/calls/stdin", b"".join(b"%d\t%d\t%d\t%d\n" % (len(data), *rest) + data for data, *rest in made)
-    yield "crates/calls/stdout", b"".join(called(*one) for one in made)
+    """The rows of the test program `calls`: texts that are only read, then models that the calls are made on."""
+    rows = [((data,), reading(data)) for data in texts()] + [(row, called(*row)) for row in calls()]
+    yield "crates/calls/stdin", b"".join(second.record(b"%d" % len(data), *numbers) + data for (data, *numbers), _ in rows)
+    yield "crates/calls/stdout", b"".join(written for _, written in rows)
 
 
 def main():

@@ -1,65 +1,23 @@
-// Calls the decision, the table check, the trace and the replay on many models, and writes every answer and the lent cells afterwards,
-// also past the table. Standard input is a row of models, each behind a line with its length, the budget, the room and which array is too
-// short (1 heads, 2 triples, 3 the replay's stack); tests/expected.py makes it, and says by the second program what is to be written.
+// Calls the reader on many texts, and the decision, the table check, the trace and the replay on many models, and writes every answer and
+// the lent cells afterwards, also past the table. Standard input is a row of texts, each behind a line of numbers: its length alone where it
+// is only read; else also the budget, the room and which array is too short (1 heads, 2 triples, 3 the replay's stack). tests/expected.py
+// makes it, and says by the second program what is to be written.
+ghost use Prim.Native.Nat.{_≤_};
 use decide::Decision;
 use libc::STDIN_FILENO;
-use libc::STDOUT_FILENO;
 use model::Model;
 use recheck::Recheck;
 use replay::Replayed;
+use show::line;
 use table::Size;
+use text::Numbers;
 use trace::Traced;
 
-fn word(s: &[u8]) {
-    io::write_all(STDOUT_FILENO, s);
-}
-
-fn field(n: u64) {
-    word(b"\t");
-    io::print_decimal(STDOUT_FILENO, n);
-}
-
-fn line(s: &[u8], a: u64, b: u64) {
-    word(s);
-    field(a);
-    field(b);
-    word(b"\n");
-}
-
-fn wide(n: u16) -> u64 {
-    n as u64
-}
+mod reading; // how a reading ends
+mod show; // what is written
 
 fn whole(n: u32) -> usize {
     n as usize
-}
-
-// The first n cells, or all where there are fewer.
-fn cells(name: &[u8], s: &[u16], n: usize) {
-    word(name);
-    let mut i = 0;
-    while i < n {
-        if s.len() <= i {
-            word(b"\n");
-            return;
-        }
-        field(wide(s[i]));
-        i += 1;
-    }
-    word(b"\n");
-}
-
-// How many cells are 0.
-fn zeros(s: &[u8]) -> u64 {
-    let mut n: u64 = 0;
-    let mut i = 0;
-    while i < s.len() {
-        if s[i] == 0 {
-            n = std::num::wrapping_add_u64(n, 1);
-        }
-        i += 1;
-    }
-    n
 }
 
 fn show_check(r: Recheck) {
@@ -146,20 +104,7 @@ fn traced(
 fn replayed(m: Model, steps: &[u16], stack: &mut [u8]) {
     let r = replay::replay_steps(m, steps, stack);
     show_replay(r);
-    line(b"cleared", zeros(stack), 0);
-}
-
-// How many cells still are 7.
-fn sevens(s: &[u16]) -> u64 {
-    let mut n: u64 = 0;
-    let mut i = 0;
-    while i < s.len() {
-        if s[i] == 7 {
-            n = std::num::wrapping_add_u64(n, 1);
-        }
-        i += 1;
-    }
-    n
+    line(b"cleared", show::bytes_filled(stack, 0), 0);
 }
 
 // The decision between two checks, in arrays full of other numbers.
@@ -170,14 +115,18 @@ fn call_all(m: Model, budget: u32, heads: &mut [u16], triples: &mut [u16]) {
     };
     check(m, heads, triples);
     decided(m, budget, heads, triples);
-    cells(b"heads", heads, rounds::head_count(size));
-    cells(b"triples", triples, rounds::triple_count(size));
-    line(b"sevens", sevens(heads), sevens(triples));
+    show::numbers(b"heads", heads, rounds::head_count(size));
+    show::numbers(b"triples", triples, rounds::triple_count(size));
+    line(
+        b"sevens",
+        show::numbers_filled(heads, 7),
+        show::numbers_filled(triples, 7),
+    );
     check(m, heads, triples);
 }
 
 fn show_steps(m: Model, steps: &[u16], k: usize, stack: &mut [u8]) {
-    cells(b"steps", steps, 12);
+    show::numbers(b"steps", steps, 12);
     if k <= steps.len() {
         replayed(m, &steps[..k], stack);
     }
@@ -195,57 +144,71 @@ fn call_trace(
     show_steps(m, room, k, stack);
 }
 
-fn in_room(
+fn call_both(
     m: Model,
     budget: u32,
     heads: &mut [u16],
     triples: &mut [u16],
-    steps: &mut [u16],
-    room: usize,
+    room: &mut [u16],
     stack: &mut [u8],
 ) {
     call_all(m, budget, heads, triples);
-    if steps.len() < room {
-        return;
-    }
-    call_trace(m, budget, heads, triples, &mut steps[..room], stack);
+    call_trace(m, budget, heads, triples, room, stack);
 }
 
-fn with_heads(m: Model, budget: u32, heads: &mut [u16], room: usize, short: u32) {
-    let mut triples = [7u16; 2060];
-    let mut steps = [9u16; 8200];
-    let mut stack = [5u8; 8300];
-    if short == 2 {
-        let mut few = [7u16; 0];
-        in_room(m, budget, heads, &mut few, &mut steps, room, &mut stack);
-        return;
+// How many cells an array has: n, or none where it is the one that is too short.
+fn kept(short: u32, which: u32, n: usize) -> usize
+    ensures { λ k. ⌜ k ≤ n ⌝ }
+{
+    if short == which {
+        return 0;
     }
-    if short == 3 {
-        let mut low = [5u8; 0];
-        in_room(m, budget, heads, &mut triples, &mut steps, room, &mut low);
-        return;
-    }
-    in_room(m, budget, heads, &mut triples, &mut steps, room, &mut stack);
+    n
 }
 
-fn with_room(m: Model, budget: u32, room: usize, short: u32) {
-    if short == 1 {
-        let mut few = [7u16; 0];
-        with_heads(m, budget, &mut few, room, short);
+fn with_arrays(m: Model, budget: u32, room: usize, short: u32) {
+    if 8200 < room {
         return;
     }
     let mut heads = [7u16; 260];
-    with_heads(m, budget, &mut heads, room, short);
+    let mut triples = [7u16; 2060];
+    let mut steps = [9u16; 8200];
+    let mut stack = [5u8; 8300];
+    let h = kept(short, 1, 260);
+    let t = kept(short, 2, 2060);
+    let k = kept(short, 3, 8300);
+    call_both(
+        m,
+        budget,
+        &mut heads[..h],
+        &mut triples[..t],
+        &mut steps[..room],
+        &mut stack[..k],
+    );
 }
 
-// The place after the model that is announced at the front of s, or 0 where there is none.
+// A text is read; and the calls are made where four numbers are given.
+fn answer(part: &[u8], numbers: Numbers) {
+    let read = reader::read_model(part);
+    if numbers.count != 4 {
+        reading::show_reading(read);
+        return;
+    }
+    let m = read.model;
+    let given = numbers.at;
+    let budget = given[1];
+    let room = whole(given[2]);
+    with_arrays(m, budget, room, given[3]);
+}
+
+// The place after the text that is announced at the front of s, or 0 where there is none.
 fn next(s: &[u8]) -> usize {
     let e = text::find(s, b'\n');
     if s.len() <= e {
         return 0;
     }
     let numbers = text::read_numbers(&s[..e]);
-    if numbers.count != 4 {
+    if numbers.count == 0 {
         return 0;
     }
     let given = numbers.at;
@@ -255,11 +218,7 @@ fn next(s: &[u8]) -> usize {
     if rest.len() < k {
         return 0;
     }
-    let read = reader::read_model(&rest[..k]);
-    let m = read.model;
-    let budget = given[1];
-    let room = whole(given[2]);
-    with_room(m, budget, room, given[3]);
+    answer(&rest[..k], numbers);
     b + k
 }
 
@@ -278,7 +237,7 @@ fn call_each(all: &[u8]) {
 }
 
 fn main() {
-    let mut space = [0u8; 65536];
+    let mut space = [0u8; 262144];
     let n = io::read_full(STDIN_FILENO, &mut space);
     call_each(&space[..n]);
 }

@@ -1,3 +1,4 @@
 pub mod Deciding
 pub mod Tracing
 pub mod OneOutcome
+pub mod OneAnswer

@@ -3,17 +3,9 @@
 use libc::STDIN_FILENO;
 use libc::STDOUT_FILENO;
 
-// Writes the first k bytes.
-fn write_front(out: &[u8], k: usize) {
-    if out.len() < k {
-        return;
-    }
-    io::write_all(STDOUT_FILENO, &out[..k]);
-}
-
 fn write_answer(text: &[u8], out: &mut [u8]) {
     let k = report::check_text(text, out);
-    write_front(out, k);
+    io::write_all(STDOUT_FILENO, output::front(out, k));
 }
 
 fn main() {

@@ -42,26 +42,11 @@ part-rest-end c = search needs
 returns-3 : tie.Need-returns-3
 returns-3 c = search needs
 
-slice-aggregate-read-model : tie.Need-slice-aggregate-read-model
-slice-aggregate-read-model c = sym (length-take-le _ _ (omega arith))
+slice-aggregate-answer : tie.Need-slice-aggregate-answer
+slice-aggregate-answer c = sym (length-take-le _ _ (omega arith))
 
-read-model-requires : tie.Need-read-model-requires
-read-model-requires c κs = search needs
-
-array-read-budget : tie.Need-array-read-budget
-array-read-budget c = search needs
-
-array-read-whole-2 : tie.Need-array-read-whole-2
-array-read-whole-2 c = search needs
-
-whole-requires-2 : tie.Need-whole-requires-2
-whole-requires-2 c κs = search needs
-
-array-read-with-room : tie.Need-array-read-with-room
-array-read-with-room c = search needs
-
-with-room-requires : tie.Need-with-room-requires
-with-room-requires c κs = search needs
+answer-requires : tie.Need-answer-requires
+answer-requires c κs = search needs
 
 add-result : tie.Need-add-result
 add-result c = search needs
@@ -85,12 +70,7 @@ next-spec =
     part-rest-start
     part-rest-end
     returns-3
-    slice-aggregate-read-model
-    read-model-requires
-    array-read-budget
-    array-read-whole-2
-    whole-requires-2
-    array-read-with-room
-    with-room-requires
+    slice-aggregate-answer
+    answer-requires
     add-result
     returns-4)

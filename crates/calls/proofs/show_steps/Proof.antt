@@ -6,11 +6,11 @@ use borrow.Author.Needs.{needs}
 use Rattle.calls.proofs.show_steps.Statement.{statement}
 use Rattle.calls.proofs.show_steps.Tie as tie
 
-slice-aggregate-cells : tie.Need-slice-aggregate-cells
-slice-aggregate-cells c = search needs
+slice-aggregate-numbers : tie.Need-slice-aggregate-numbers
+slice-aggregate-numbers c = search needs
 
-cells-requires : tie.Need-cells-requires
-cells-requires c κs = search needs
+numbers-requires : tie.Need-numbers-requires
+numbers-requires c κs = search needs
 
 slice-aggregate-replayed : tie.Need-slice-aggregate-replayed
 slice-aggregate-replayed c = sym (length-take-le _ _ (omega arith))
@@ -31,8 +31,8 @@ pub show-steps-spec : {M : Type 1} → statement M
 show-steps-spec =
     tie.close
     (tie.spec
-    slice-aggregate-cells
-    cells-requires
+    slice-aggregate-numbers
+    numbers-requires
     slice-aggregate-replayed
     replayed-requires
     same-length

@@ -1,24 +1,20 @@
--- `calls::sevens` meets its contract. Assumes nothing.
+-- `calls::show::filled` meets its contract. Assumes nothing.
 use Prim.Native.Nat.{_≤_, _-_}
-use lib.ListN.{length}
 use borrow.Author.Needs.{needs}
-use Rattle.calls.proofs.sevens.Statement.{statement}
-use Rattle.calls.proofs.sevens.Tie as tie
+use Rattle.calls.proofs.show.filled.Statement.{statement}
+use Rattle.calls.proofs.show.filled.Tie as tie
 
 abbrev Inv-loop : tie.InvT-loop
-Inv-loop s n₀ i₀ n i = (i ≤ length s)
+Inv-loop bytes numbers n x k₀ i₀ k i = (i ≤ n)
 
 abbrev μ-loop : tie.MeasureT-loop
-μ-loop s n₀ i₀ n i = length s - i
+μ-loop bytes numbers n x k₀ i₀ k i = n - i
 
 loop-holds : tie.Need-loop-holds Inv-loop μ-loop
 loop-holds c = search needs
 
-mul-if1 : tie.Need-mul-if1 Inv-loop μ-loop
-mul-if1 c = search needs
-
-shared-slice-read-if1 : tie.Need-shared-slice-read-if1 Inv-loop μ-loop
-shared-slice-read-if1 c = search needs
+is-requires : tie.Need-is-requires Inv-loop μ-loop
+is-requires c κs = search needs
 
 wrapping-add-u64-requires : tie.Need-wrapping-add-u64-requires Inv-loop μ-loop
 wrapping-add-u64-requires c κs = search needs
@@ -35,15 +31,14 @@ loop-again c = search needs
 returns : tie.Need-returns Inv-loop μ-loop
 returns c = search needs
 
-pub sevens-spec : {M : Type 1} → statement M
-sevens-spec =
+pub filled-spec : {M : Type 1} → statement M
+filled-spec =
     tie.close
     (tie.spec
     Inv-loop
     μ-loop
     loop-holds
-    mul-if1
-    shared-slice-read-if1
+    is-requires
     wrapping-add-u64-requires
     add-i
     loop-less

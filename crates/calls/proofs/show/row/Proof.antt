@@ -1,15 +1,14 @@
--- `readings::places` meets its contract. Assumes nothing.
+-- `calls::show::row` meets its contract. Assumes nothing.
 use Prim.Native.Nat.{_≤_, _-_}
-use lib.ListN.{length}
 use borrow.Author.Needs.{needs}
-use Rattle.readings.proofs.places.Statement.{statement}
-use Rattle.readings.proofs.places.Tie as tie
+use Rattle.calls.proofs.show.row.Statement.{statement}
+use Rattle.calls.proofs.show.row.Tie as tie
 
 abbrev Inv-loop : tie.InvT-loop
-Inv-loop name bits i₀ t4 i = (i ≤ length bits)
+Inv-loop name bytes numbers truths n i₀ t7 i = (i ≤ n)
 
 abbrev μ-loop : tie.MeasureT-loop
-μ-loop name bits i₀ t4 i = length bits - i
+μ-loop name bytes numbers truths n i₀ t7 i = n - i
 
 word-requires : tie.Need-word-requires Inv-loop μ-loop
 word-requires c κs = search needs
@@ -17,11 +16,8 @@ word-requires c κs = search needs
 loop-holds : tie.Need-loop-holds Inv-loop μ-loop
 loop-holds c = search needs
 
-shared-slice-read-if1 : tie.Need-shared-slice-read-if1 Inv-loop μ-loop
-shared-slice-read-if1 c = search needs
-
-field-requires : tie.Need-field-requires Inv-loop μ-loop
-field-requires c κs = search needs
+cell-requires : tie.Need-cell-requires Inv-loop μ-loop
+cell-requires c κs = search needs
 
 add-i : tie.Need-add-i Inv-loop μ-loop
 add-i c = search needs
@@ -41,16 +37,15 @@ word-requires-2 c κs = search needs
 returns : tie.Need-returns Inv-loop μ-loop
 returns c = search needs
 
-pub places-spec : {M : Type 1} → statement M
-places-spec =
+pub row-spec : {M : Type 1} → statement M
+row-spec =
     tie.close
     (tie.spec
     Inv-loop
     μ-loop
     word-requires
     loop-holds
-    shared-slice-read-if1
-    field-requires
+    cell-requires
     add-i
     loop-less
     loop-again
