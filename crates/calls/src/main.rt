@@ -115,8 +115,8 @@ fn call_all(m: Model, budget: u32, heads: &mut [u16], triples: &mut [u16]) {
     };
     check(m, heads, triples);
     decided(m, budget, heads, triples);
-    show::numbers(b"heads", heads, rounds::head_count(size));
-    show::numbers(b"triples", triples, rounds::triple_count(size));
+    show::numbers(b"heads", heads, table::head_count(size));
+    show::numbers(b"triples", triples, table::triple_count(size));
     line(
         b"sevens",
         show::numbers_filled(heads, 7),

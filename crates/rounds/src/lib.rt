@@ -1,6 +1,5 @@
 // One round over the two lent arrays, in which the facts held before it, those of lower rank, give new ones.
 ghost use mathlib.Core.Path.{_≡_};
-ghost use Prim.Native.Nat.{_*_};
 ghost use Rattle.ways.specs.Taken.{arrays, allTaken};
 ghost use Rattle.rounds.specs.Round.{startOf, roundOf, stepWays, pairWays, ruleWays};
 use model::Model;
@@ -75,19 +74,6 @@ fn rule<'a>(
     }
 }
 
-// How many heads a table has, and how many triples.
-pub fn head_count(size: Size) -> usize
-    ensures { λ n. ⌜ n ≡ size .states * size .symbols ⌝ }
-{
-    (size.states as usize) * (size.symbols as usize)
-}
-
-pub fn triple_count(size: Size) -> usize
-    ensures { λ n. ⌜ n ≡ size .states * size .symbols * size .states ⌝ }
-{
-    head_count(size) * (size.states as usize)
-}
-
 // Round 0: the start head alone.
 pub fn start(heads: &mut [u16], triples: &mut [u16], m: Model)
     ensures { λ _. ⌜ arrays (now (heads .exit)) (now (triples .exit)) ≡ startOf m (arrays (now (heads .entry)) (now (triples .entry))) ⌝ }
@@ -96,8 +82,8 @@ pub fn start(heads: &mut [u16], triples: &mut [u16], m: Model)
         symbols: m.symbols,
         states: m.states,
     };
-    table::clear(heads, head_count(size));
-    table::clear(triples, triple_count(size));
+    table::clear(heads, table::head_count(size));
+    table::clear(triples, table::triple_count(size));
     table::put_head(
         heads,
         size,
