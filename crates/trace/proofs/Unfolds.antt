@@ -17,17 +17,17 @@ use Rattle.product.proofs.Rounds.{In, of-works, grown-up}
 use Rattle.product.proofs.Ranks.{ranks-rank}
 use Rattle.product.proofs.Falling.{unfolded, trace-later, trace-falls}
 use Rattle.product.proofs.Ways.{EachWay, steps-ways}
-use Rattle.trace.specs.declared.Goal.{Goal}
-use Rattle.trace.specs.declared.Goal.the-variants.{Head, Triple, Nothing}
-use Rattle.trace.specs.declared.Cause.{Cause}
-use Rattle.trace.specs.declared.Found.{Found}
-use Rattle.trace.specs.declared.Found.the-variants.{By, Nowhere}
-use Rattle.trace.specs.Answers.{goalOf, firstIn, secondIn, causeOf, foundAs, rankOf}
+use Rattle.explain.specs.declared.Goal.{Goal}
+use Rattle.explain.specs.declared.Goal.the-variants.{Head, Triple, Nothing}
+use Rattle.explain.specs.declared.Cause.{Cause}
+use Rattle.explain.specs.declared.Found.{Found}
+use Rattle.explain.specs.declared.Found.the-variants.{By, Nowhere}
+use Rattle.explain.specs.Answers.{goalOf, firstIn, secondIn, causeOf, foundAs, rankOf}
 use Rattle.trace.specs.Unfold.{Wrote, Explains, HeldFor, stepsFor, Unfolded}
-use Rattle.trace.proofs.First.{find-elim}
-use Rattle.trace.proofs.Tried.{found-none, found-some}
+use Rattle.explain.proofs.First.{find-elim}
+use Rattle.explain.proofs.Tried.{found-none, found-some}
 use Rattle.trace.proofs.Wrote.{wrote-none, wrote-cut, wrote-then}
-use Rattle.trace.proofs.Falls.{first-of, second-of, same-cause}
+use Rattle.explain.proofs.Falls.{first-of, second-of, same-cause}
 
 -- a way needs at most one head and two triples
 abbrev Short : Way → Type 0

@@ -2,36 +2,9 @@
 ghost use Rattle.trace.specs.Outcome.{Outcome};
 ghost use Rattle.trace.specs.Written.{Ranked, Written};
 use decide::Decision;
+use explain::Counts;
 use model::Model;
 use table::Size;
-
-// How many symbols, states, rules and moves a model has.
-struct Counts {
-    size: Size,
-    rules: usize,
-    moves: usize,
-}
-
-// A fact whose run is asked for: a head, a triple; or none is needed.
-enum Goal {
-    Nothing,
-    Head(usize, usize),
-    Triple(usize, usize, usize),
-}
-
-// An explanation: its rule and move, the head before the step, and the triples that are run after it.
-struct Cause {
-    rule: usize,
-    by: usize,
-    before: Goal,
-    first: Goal,
-    second: Goal,
-}
-
-enum Found {
-    By(Cause),
-    Nowhere,
-}
 
 // The answer of the call: the trace was found, with its rounds and steps; or a refusal, whose number specs/Outcome.antt says.
 pub enum Traced {
@@ -45,7 +18,6 @@ pub enum Traced {
 
 mod culprit; // the violating fact that is taken
 mod steps; // an explanation unfolded to steps
-mod why; // the search for an explanation
 
 // The trace of a violation after n rounds, into the room.
 fn write_trace<'a>(

@@ -3,13 +3,11 @@ ghost use mathlib.Core.List.{[], _∷_};
 ghost use Prim.Native.Nat.{_+_, _*_, _<_};
 ghost use lib.ListN.{length};
 ghost use Rattle.table.specs.Cells.{view};
-ghost use Rattle.trace.specs.Search.{whyIn};
+ghost use Rattle.explain.specs.Search.{whyIn};
 ghost use Rattle.trace.specs.Unfold.{Wrote, Storable, Unfolded};
-use crate::Counts;
-use crate::Found;
-use crate::Goal;
-use crate::why::explain;
-use crate::why::rank_of;
+use explain::Counts;
+use explain::Found;
+use explain::Goal;
 
 // Writes a step, if there is room, and gives the next place: one past the end of the room where it was cut.
 fn put(room: &mut [u16], at: usize, rule: usize, by: usize) -> usize
@@ -43,11 +41,11 @@ pub fn unfold_fact<'a>(
         return at;
     }
     let size = n.size;
-    let k = rank_of(heads, triples, size, f);
+    let k = explain::rank_of(heads, triples, size, f);
     if k == 0 {
         return at;
     }
-    let w = explain(rules, moves, shows, heads, triples, n, k, f);
+    let w = explain::explain(rules, moves, shows, heads, triples, n, k, f);
     match w {
         Found::Nowhere => at,
         Found::By(c) => {

@@ -2,9 +2,9 @@
 -- lower rank. Assumes nothing.
 use borrow.Author.Needs.{needs}
 use Rattle.table.specs.Cells.{view}
-use Rattle.trace.specs.Answers.{rankOf}
-use Rattle.trace.specs.Search.{whyIn}
-use Rattle.trace.proofs.Falls.{found-falls}
+use Rattle.explain.specs.Answers.{rankOf}
+use Rattle.explain.specs.Search.{whyIn}
+use Rattle.explain.proofs.Falls.{found-falls}
 use Rattle.trace.proofs.Unfolds.{unfolded-cut, unfolded-start, unfolded-none, unfolded-by}
 use native.Mathlib.Omega.{arith}
 use Prim.Native.Nat.{ℕ, _<_}
@@ -14,8 +14,8 @@ use Rattle.trace.proofs.steps.unfold_fact.Reads as unfold-fact
 use Rattle.trace.proofs.steps.unfold_fact.Kinds as unfold-fact-kinds
 use Rattle.trace.proofs.steps.+unfold_fact.Lts-unfold_fact as unfold-fact-lts
 use Rattle.trace.proofs.steps.put.Reads as put-reads
-use Rattle.trace.proofs.why.explain.Reads as explain-reads
-use Rattle.trace.proofs.why.rank_of.Reads as rank-of-reads
+use Rattle.explain.proofs.explain.Reads as explain-reads
+use Rattle.explain.proofs.rank_of.Reads as rank-of-reads
 use Rattle.trace.proofs.steps.+unfold_fact.{statement}
 use Rattle.trace.proofs.steps.+unfold_fact.Tie.{close}
 

@@ -1,0 +1,4 @@
+pub mod First
+pub mod Tried
+pub mod Explained
+pub mod Falls
