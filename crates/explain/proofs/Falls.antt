@@ -8,7 +8,7 @@ use native.Mathlib.Omega.{arith}
 use lib.Dec.{T, ltb→lt}
 use Rattle.product.specs.Lists.{All, all}
 use Rattle.product.specs.Product.{Rule, exit, direct, call, Step}
-use Rattle.product.specs.Facts.{Fact, head, triple, Way, needs, same, first, ways}
+use Rattle.product.specs.Facts.{Fact, head, triple, Way, needs}
 use Rattle.product.specs.Table.{Table}
 use Rattle.product.specs.Trace.{trace}
 use Rattle.product.proofs.Lists.{and-right, All-of, All-left, All-right, All-at}
@@ -18,7 +18,7 @@ use Rattle.explain.specs.declared.Goal.the-variants.{Head, Triple, Nothi
 use Rattle.explain.specs.declared.Cause.{Cause}
 use Rattle.explain.specs.declared.Found.{Found}
 use Rattle.explain.specs.declared.Found.the-variants.{By}
-use Rattle.explain.specs.Search.{lower, explains, stepOf, source, chancesTo, tried, triedAt, byMove, byRule, searched}
+use Rattle.explain.specs.Search.{lower, gives, explains, stepOf, source, chancesTo, tried, triedAt, byMove, byRule, searched}
 use Rattle.explain.specs.Answers.{goalOf, firstIn, secondIn, causeOf, foundAs, rankOf}
 use Rattle.explain.proofs.First.{first-elim, find-elim}
 use Rattle.explain.proofs.Tried.{found-some}
@@ -41,10 +41,6 @@ pub record Falls (rules moves : ℕ) (t : Table) (k : ℕ) (c : Cause) : Type 0 
   pub first-lower : rankOf t (c .first) < k
   pub second-lower : rankOf t (c .second) < k
 
-all-of : (h : Fact → Bool) (f : Goal) (w : Way) → T (explains h f w) → T (all h (needs w))
-all-of h (Head q g) w u = and-right (same (w .gives) (head q g)) (all h (needs w)) u
-all-of h (Triple q g e) w u = and-right (same (w .gives) (triple q g e)) (all h (needs w)) u
-
 -- the ways that are tried are by the step
 chances-by : (f : Goal) (s : Step) (x : ℕ) (ρ : Rule) (o : Option ℕ) → All (λ w. w .by ≡ s) (chancesTo f s x ρ o)
 chances-by f s x ρ none = tt
@@ -64,7 +60,7 @@ module _ (rules moves : ℕ) (t : Table) (k : ℕ) where
   sound-tried f r v x i j ρ o w e =
       let (l, u) = find-elim (explains (lower t k) f) (chancesTo f (stepOf r v) x ρ o) w e in
       let s : w .by ≡ stepOf r v = All-at (λ w. w .by ≡ stepOf r v) (chancesTo f (stepOf r v) x ρ o) (chances-by f (stepOf r v) x ρ o) w l in
-      (subst⁻¹ (λ (s : Step). s .by-rule < rules) s i, subst⁻¹ (λ (s : Step). s .by-move < moves) s j, all-of (lower t k) f w u)
+      (subst⁻¹ (λ (s : Step). s .by-rule < rules) s i, subst⁻¹ (λ (s : Step). s .by-move < moves) s j, and-right (gives f w) (all (lower t k) (needs w)) u)
 
   falls-by : 0 < k → (w : Way) → Sound w → Falls rules moves t k (causeOf w)
   falls-by pos w (i, j, u) =

@@ -1,15 +1,19 @@
 -- A step tried for a fact, by the tests of the code. Assumes nothing.
 use mathlib.Core.Bool.{Bool, true, false, cond, _&&_}
 use mathlib.Core.List.{List, [], _∷_, _++_}
+use mathlib.Core.Logic.{⊎-elim}
 use mathlib.Core.Option.{Option, none, some}
-use mathlib.Core.Path.{_≡_, refl, sym, ap, _∙_}
+use mathlib.Core.Path.{_≡_, refl, sym, ap, ap₂, _∙_}
 use Prim.Native.Nat.{ℕ, _<_}
 use lib.Dec.{ltb}
 use native.Mathlib.Omega.{arith}
-use borrow.Author.Tests.{eq-eqb, ne-eqb}
+use denote.Enum.Declared.{tagOf}
+use types.Run.{OneOf}
 use Rattle.product.specs.Lists.{all, find}
-use Rattle.product.specs.Facts.{Fact, head, triple, Way, needs, same, enters, returns}
-use Rattle.product.specs.Rounds.{works}
+use Rattle.product.specs.Product as product
+use Rattle.product.specs.Product.{exit, direct, call, Step}
+use Rattle.product.specs.Facts.{Fact, head, triple, Way, needs, leaves, enters, backs, returns, meets}
+use Rattle.product.specs.Table.{Table}
 use Rattle.product.proofs.Lists.{all-append}
 use Rattle.model.specs.declared.Rule.{Rule}
 use Rattle.model.specs.declared.Next.{Next}
@@ -19,20 +23,22 @@ use Rattle.model.specs.Answers.{ruleAs, meant, nextAs, landed}
 use Rattle.model.proofs.Answers.{meant-as}
 use Rattle.model.proofs.Bounds.{landed-as}
 use Rattle.explain.specs.declared.Goal.{Goal}
+use Rattle.explain.proofs.Goal.{the-type}
+use Rattle.explain.specs.declared.Goal.the-variants.{Head, Triple, Nothing}
 use Rattle.explain.specs.declared.Cause.{Cause}
 use Rattle.explain.specs.declared.Found.{Found}
 use Rattle.explain.specs.declared.Found.the-variants.{By, Nowhere}
-use Rattle.explain.specs.Answers.{factIn, needsOf, ifHas, causeOf, foundAs}
-use Rattle.explain.specs.Search.{stepOf, explains, source, chances, tried, triedAt, byMove, byRule, searched}
-use Rattle.explain.specs.First.{firstOf}
-use Rattle.explain.proofs.First.{first-here}
+use Rattle.explain.specs.Answers.{rankOf, factIn, needsOf, ifHas, orFound, causeOf, foundAs}
+use Rattle.explain.specs.Search.{lower, stepOf, gives, explains, givenBy, source, sooner, later, chances, tried, triedAt, byMove, byRule, searched}
+use Rattle.explain.specs.First.{orElse, firstOf}
+use Rattle.explain.proofs.First.{first-here, find-append}
+use Rattle.explain.proofs.Given.{and-true, found-if}
 
-and-true : (b : Bool) → (b && true) ≡ b
-and-true true = refl
-and-true false = refl
-
-pub lower-one : (k : ℕ) {n m : ℕ} → n ≡ m → ltb n k ≡ (ltb m k && true)
-lower-one k {n} {m} e = ap (λ n. ltb n k) e ∙ sym (and-true (ltb m k))
+-- a fact that is asked for, a head or a triple, by its rank
+pub lower-one : (t : Table) (k : ℕ) (f : Goal) → OneOf (1 ∷ 2 ∷ []) (tagOf the-type f) → {n : ℕ} → n ≡ rankOf t f → ltb n k ≡ all (lower t k) (factIn f)
+lower-one t k Nothing is e = absurd (⊎-elim (λ i. omega arith) (λ i. omega arith) is)
+lower-one t k (Head q g) is e = ap (λ n. ltb n k) e ∙ sym (and-true (ltb (t (head q g)) k))
+lower-one t k (Triple q g x) is e = ap (λ n. ltb n k) e ∙ sym (and-true (ltb (t (triple q g x)) k))
 
 -- a cause, by the tests of what it needs
 module _ (h : Fact → Bool) (c : Cause) where
@@ -41,80 +47,45 @@ module _ (h : Fact → Bool) (c : Cause) where
       ∙ ap (λ b. all h (factIn (c .before)) && b) (all-append h (factIn (c .first)) (factIn (c .second)))
 
   module _ {x : Bool} (one : x ≡ all h (factIn (c .before))) where
-    pub lacks-before : x ≡ false → Nowhere ≡ ifHas h c
+    pub lacks-before : x ≡ false → false ≡ all h (needsOf c)
     lacks-before n = rw (parts, ← one, n)
 
-    module _ {y : Bool} (two : y ≡ all h (factIn (c .first))) where
-      pub lacks-first : x ≡ true → y ≡ false → Nowhere ≡ ifHas h c
-      lacks-first a n = rw (parts, ← one, a, ← two, n)
+    module _ {y : Bool} (two : y ≡ all h (factIn (c .first))) (a : x ≡ true) where
+      pub lacks-first : y ≡ false → false ≡ all h (needsOf c)
+      lacks-first n = rw (parts, ← one, a, ← two, n)
 
-      module _ {z : Bool} (three : z ≡ all h (factIn (c .second))) where
-        pub lacks-second : x ≡ true → y ≡ true → z ≡ false → Nowhere ≡ ifHas h c
-        lacks-second a b n = rw (parts, ← one, a, ← two, b, ← three, n)
+      pub has-both : {z : Bool} → z ≡ all h (factIn (c .second)) → y ≡ true → z ≡ all h (needsOf c)
+      has-both three b = rw (parts, ← one, a, ← two, b, ← three)
 
-        pub has-all : x ≡ true → y ≡ true → z ≡ true → By c ≡ ifHas h c
-        has-all a b d = rw (parts, ← one, a, ← two, b, ← three, d)
+-- one way: first what it gives, and then what it needs
+has-one : (h : Fact → Bool) (f : Goal) (w : Way) → needsOf (causeOf w) ≡ needs w → ifHas h (foundAs (givenBy f (w ∷ []))) ≡ foundAs (find (explains h f) (w ∷ []))
+has-one h f w e = go (gives f w) ∙ ap (λ ds. foundAs (cond (gives f w && all h ds) (some w) none)) e
+  where
+    go : (b : Bool) → ifHas h (foundAs (cond b (some w) none)) ≡ foundAs (cond (b && all h (needsOf (causeOf w))) (some w) none)
+    go true = found-if (all h (needsOf (causeOf w))) w
+    go false = refl
 
--- one way, by the test of what it gives
-module _ (h : Fact → Bool) (f : Fact) (w : Way) where
-  gives-not : same (w .gives) f ≡ false → Nowhere ≡ foundAs (find (works h f) (w ∷ []))
-  gives-not n = rw n
+module _ (h : Fact → Bool) (s : Step) (x y : ℕ) where
+  has-sooner : (f : Goal) (ρ : product.Rule) → ifHas h (foundAs (givenBy f (sooner f s x y ρ))) ≡ foundAs (find (explains h f) (sooner f s x y ρ))
+  has-sooner Nothing ρ = refl
+  has-sooner (Head q g) (exit a) = refl
+  has-sooner (Head q g) (direct a g1) = has-one h (Head q g) (enters s x a y g1) refl
+  has-sooner (Head q g) (call a g1 g2) = has-one h (Head q g) (enters s x a y g1) refl
+  has-sooner (Triple q g e) (exit a) = has-one h (Triple q g e) (leaves s q a y) refl
+  has-sooner (Triple q g e) (direct a g1) = has-one h (Triple q g e) (backs s q a y g1 e) refl
+  has-sooner (Triple q g e) (call a g1 g2) = has-one h (Triple q g e) (meets s q a y g1 g2 x e) refl
 
-  gives : same (w .gives) f ≡ true → {d : Found} → d ≡ cond (all h (needs w)) (By (causeOf w)) Nowhere → d ≡ foundAs (find (works h f) (w ∷ []))
-  gives y {d} e = e ∙ go (all h (needs w))
-    where
-      go : (b : Bool) → cond b (By (causeOf w)) Nowhere ≡ foundAs (cond (same (w .gives) f && b) (some w) none)
-      go true = rw y
-      go false = rw y
+  has-later : (f : Goal) (ρ : product.Rule) → ifHas h (foundAs (givenBy f (later f s x y ρ))) ≡ foundAs (find (explains h f) (later f s x y ρ))
+  has-later Nothing ρ = refl
+  has-later (Head q g) (exit a) = refl
+  has-later (Head q g) (direct a g1) = refl
+  has-later (Head q g) (call a g1 g2) = has-one h (Head q g) (returns s x a y g1 g2 q) refl
+  has-later (Triple q g e) ρ = refl
 
 -- two ways, one after the other
-module _ (p : Way → Bool) (w w′ : Way) where
-  pub found-first : {d : Found} {c : Cause} → d ≡ foundAs (find p (w ∷ [])) → d ≡ By c → By c ≡ foundAs (find p (w ∷ w′ ∷ []))
-  found-first {d} {c} e i = go (p w) (sym i ∙ e)
-    where
-      go : (b : Bool) → By c ≡ foundAs (cond b (some w) none) → By c ≡ foundAs (cond b (some w) (find p (w′ ∷ [])))
-      go true e = e
-      go false e = let z : _≡_ {A = ℕ} 0 1 = cc in absurd (omega arith)
-
-  pub found-second : {d d′ : Found} → d ≡ foundAs (find p (w ∷ [])) → d ≡ Nowhere → d′ ≡ foundAs (find p (w′ ∷ [])) → d′ ≡ foundAs (find p (w ∷ w′ ∷ []))
-  found-second {d} {d′} e i k = go (p w) (sym i ∙ e)
-    where
-      go : (b : Bool) → Nowhere ≡ foundAs (cond b (some w) none) → d′ ≡ foundAs (cond b (some w) (find p (w′ ∷ [])))
-      go true e = let z : _≡_ {A = ℕ} 0 1 = cc in absurd (omega arith)
-      go false e = k
-
--- each kind of way, by the numbers that are compared
-module _ (h : Fact → Bool) (q g r v x a y g1 : ℕ) where
-  pub enters-elsewhere : (y ≡ q → ⊥) → Nowhere ≡ foundAs (find (works h (head q g)) (enters (stepOf r v) x a y g1 ∷ []))
-  enters-elsewhere n = gives-not h (head q g) (enters (stepOf r v) x a y g1) (rw (ne-eqb y q n))
-
-  module _ (here : y ≡ q) where
-    pub enters-other : (g1 ≡ g → ⊥) → Nowhere ≡ foundAs (find (works h (head q g)) (enters (stepOf r v) x a y g1 ∷ []))
-    enters-other n = gives-not h (head q g) (enters (stepOf r v) x a y g1) (rw (eq-eqb y q here, ne-eqb g1 g n))
-
-    pub enters-it : g1 ≡ g → {d : Found} → d ≡ ifHas h (causeOf (enters (stepOf r v) x a y g1)) → d ≡ foundAs (find (works h (head q g)) (enters (stepOf r v) x a y g1 ∷ []))
-    enters-it i = gives h (head q g) (enters (stepOf r v) x a y g1) (rw (eq-eqb y q here, eq-eqb g1 g i))
-
-module _ (h : Fact → Bool) (q g r v x a y g1 g2 : ℕ) where
-  pub returns-other : (g2 ≡ g → ⊥) → Nowhere ≡ foundAs (find (works h (head q g)) (returns (stepOf r v) x a y g1 g2 q ∷ []))
-  returns-other n = gives-not h (head q g) (returns (stepOf r v) x a y g1 g2 q) (rw (eq-eqb q q refl, ne-eqb g2 g n))
-
-  pub returns-it : g2 ≡ g → {d : Found} → d ≡ ifHas h (causeOf (returns (stepOf r v) x a y g1 g2 q)) → d ≡ foundAs (find (works h (head q g)) (returns (stepOf r v) x a y g1 g2 q ∷ []))
-  returns-it i = gives h (head q g) (returns (stepOf r v) x a y g1 g2 q) (rw (eq-eqb q q refl, eq-eqb g2 g i))
-
--- a way of a triple from the state q into e
-module _ (h : Fact → Bool) (q g e : ℕ) {a y : ℕ} (w : Way) (is : w .gives ≡ triple q a y) where
-  triple-same : {b : Bool} → same (triple q a y) (triple q g e) ≡ b → same (w .gives) (triple q g e) ≡ b
-  triple-same k = ap (λ f. same f (triple q g e)) is ∙ k
-
-  pub triple-other : (a ≡ g → ⊥) → Nowhere ≡ foundAs (find (works h (triple q g e)) (w ∷ []))
-  triple-other n = gives-not h (triple q g e) w (triple-same (rw (eq-eqb q q refl, ne-eqb a g n)))
-
-  pub triple-elsewhere : a ≡ g → (y ≡ e → ⊥) → Nowhere ≡ foundAs (find (works h (triple q g e)) (w ∷ []))
-  triple-elsewhere i n = gives-not h (triple q g e) w (triple-same (rw (eq-eqb q q refl, eq-eqb a g i, ne-eqb y e n)))
-
-  pub triple-it : a ≡ g → y ≡ e → {d : Found} → d ≡ cond (all h (needs w)) (By (causeOf w)) Nowhere → d ≡ foundAs (find (works h (triple q g e)) (w ∷ []))
-  triple-it i j = gives h (triple q g e) w (triple-same (rw (eq-eqb q q refl, eq-eqb a g i, eq-eqb y e j)))
+found-or : (o o′ : Option Way) → orFound (foundAs o) (foundAs o′) ≡ foundAs (orElse o o′)
+found-or none o′ = refl
+found-or (some w) o′ = refl
 
 -- what the answers say of the theory's
 pub found-none : (o : Option Way) {d : Found} → d ≡ foundAs o → d ≡ Nowhere → o ≡ none
@@ -134,11 +105,15 @@ module _ (rulerows moverows : List ℕ) (shows : List Bool) (h : Fact → Bool) 
   pub tried-stuck : n ≡ Stuck → Nowhere ≡ foundAs (triedAt rulerows moverows shows h f r v x)
   tried-stuck i = ap (λ o. foundAs (tried h f (stepOf r v) x (ruleAt rulerows r) o)) (sym (lands ∙ ap landed i))
 
-  pub tried-to : {y : ℕ} → n ≡ To y → {ρ : Rule} → ρ ≡ ruleAs (ruleAt rulerows r) → {f′ : Goal} → f ≡ f′
-      → {d : Found} → d ≡ foundAs (find (explains h f′) (chances f′ (stepOf r v) x y (meant ρ))) → d ≡ foundAs (triedAt rulerows moverows shows h f r v x)
-  tried-to {y} i {ρ} k {f′} j e =
+  pub tried-to : {y : ℕ} → n ≡ To y → {ρ : Rule} → ρ ≡ ruleAs (ruleAt rulerows r)
+      → {a : Found} → a ≡ foundAs (givenBy f (sooner f (stepOf r v) x y (meant ρ))) → {b : Found} → b ≡ foundAs (givenBy f (later f (stepOf r v) x y (meant ρ)))
+      → {d : Found} → d ≡ orFound (ifHas h a) (ifHas h b) → d ≡ foundAs (triedAt rulerows moverows shows h f r v x)
+  tried-to {y} i {ρ} k one two e =
       e
-      ∙ ap (λ f. foundAs (find (explains h f) (chances f (stepOf r v) x y (meant ρ)))) (sym j)
+      ∙ ap₂ (λ a b. orFound (ifHas h a) (ifHas h b)) one two
+      ∙ ap₂ orFound (has-sooner h (stepOf r v) x y f (meant ρ)) (has-later h (stepOf r v) x y f (meant ρ))
+      ∙ found-or (find (explains h f) (sooner f (stepOf r v) x y (meant ρ))) (find (explains h f) (later f (stepOf r v) x y (meant ρ)))
+      ∙ ap foundAs (sym (find-append (explains h f) (sooner f (stepOf r v) x y (meant ρ)) (later f (stepOf r v) x y (meant ρ))))
       ∙ ap (λ ρ. foundAs (find (explains h f) (chances f (stepOf r v) x y ρ))) (ap meant k ∙ meant-as (ruleAt rulerows r))
       ∙ ap (λ o. foundAs (tried h f (stepOf r v) x (ruleAt rulerows r) o)) (sym (lands ∙ ap landed i))
 

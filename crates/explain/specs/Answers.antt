@@ -25,14 +25,11 @@ abbrev pub secondIn : List Fact → Goal
 secondIn [] = Nothing
 secondIn (f ∷ fs) = firstIn fs
 
+abbrev pub causeBy : (rule by : ℕ) → (before first second : Goal) → Cause
+causeBy rule by before first second = record { rule = rule; by = by; before = before; first = first; second = second }
+
 abbrev pub causeOf : Way → Cause
-causeOf w = record {
-  rule = w .by .by-rule;
-  by = w .by .by-move;
-  before = firstIn (w .before);
-  first = firstIn (w .after);
-  second = secondIn (w .after);
-}
+causeOf w = causeBy (w .by .by-rule) (w .by .by-move) (firstIn (w .before)) (firstIn (w .after)) (secondIn (w .after))
 
 abbrev pub foundAs : Option Way → Found
 foundAs none = Nowhere
@@ -53,5 +50,11 @@ factIn (Triple q g e) = triple q g e ∷ []
 abbrev pub needsOf : Cause → List Fact
 needsOf c = factIn (c .before) ++ (factIn (c .first) ++ factIn (c .second))
 
-abbrev pub ifHas : (Fact → Bool) → Cause → Found
-ifHas h c = cond (all h (needsOf c)) (By c) Nowhere
+abbrev pub ifHas : (Fact → Bool) → Found → Found
+ifHas h Nowhere = Nowhere
+ifHas h (By c) = cond (all h (needsOf c)) (By c) Nowhere
+
+-- the first of two that is found
+abbrev pub orFound : Found → Found → Found
+orFound (By c) d = By c
+orFound Nowhere d = d

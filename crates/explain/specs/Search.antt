@@ -1,13 +1,12 @@
 -- The search for an explanation: rule by rule, move by move, and state by state. Assumes nothing.
-use mathlib.Core.Bool.{Bool, false}
-use mathlib.Core.List.{List, [], _∷_}
+use mathlib.Core.Bool.{Bool, false, _&&_}
+use mathlib.Core.List.{List, [], _∷_, _++_}
 use mathlib.Core.Option.{Option, none, some}
 use Prim.Native.Nat.{ℕ}
 use lib.Dec.{ltb}
-use Rattle.product.specs.Lists.{find}
+use Rattle.product.specs.Lists.{all, find}
 use Rattle.product.specs.Product.{Rule, exit, direct, call, Step}
-use Rattle.product.specs.Facts.{Fact, head, triple, Way, leaves, enters, backs, returns, meets}
-use Rattle.product.specs.Rounds.{works}
+use Rattle.product.specs.Facts.{Fact, head, triple, Way, needs, same, leaves, enters, backs, returns, meets}
 use Rattle.product.specs.Table.{Table}
 use Rattle.model.specs.Model.{ruleAt, nextAt}
 use Rattle.table.specs.Cells.{view}
@@ -25,11 +24,17 @@ below symbols states heads triples k = lower (view symbols states heads triples)
 abbrev pub stepOf : (r v : ℕ) → Step
 stepOf r v = record { by-rule = r; by-move = v }
 
--- the way gives the fact that is asked for, out of facts of the set h
+-- the way gives the fact that is asked for; and it does so out of facts of the set h
+abbrev pub gives : Goal → Way → Bool
+gives Nothing w = false
+gives (Head q g) w = same (w .gives) (head q g)
+gives (Triple q g e) w = same (w .gives) (triple q g e)
+
 abbrev pub explains : (Fact → Bool) → Goal → Way → Bool
-explains h Nothing w = false
-explains h (Head q g) w = works h (head q g) w
-explains h (Triple q g e) w = works h (triple q g e) w
+explains h f w = gives f w && all h (needs w)
+
+abbrev pub givenBy : Goal → List Way → Option Way
+givenBy f = find (gives f)
 
 -- The state that a step starts from, where x is the one free state: for a head the source of the step, for a triple the middle state.
 abbrev pub source : Goal → ℕ → ℕ
@@ -38,14 +43,24 @@ source (Head q g) x = x
 source (Triple q g e) x = q
 
 -- the ways of the step s to the state y that may give the fact: entering before returning
+abbrev pub sooner : Goal → Step → (x y : ℕ) → Rule → List Way
+sooner Nothing s x y ρ = []
+sooner (Head q g) s x y (exit a) = []
+sooner (Head q g) s x y (direct a g1) = enters s x a y g1 ∷ []
+sooner (Head q g) s x y (call a g1 g2) = enters s x a y g1 ∷ []
+sooner (Triple q g e) s x y (exit a) = leaves s q a y ∷ []
+sooner (Triple q g e) s x y (direct a g1) = backs s q a y g1 e ∷ []
+sooner (Triple q g e) s x y (call a g1 g2) = meets s q a y g1 g2 x e ∷ []
+
+abbrev pub later : Goal → Step → (x y : ℕ) → Rule → List Way
+later Nothing s x y ρ = []
+later (Head q g) s x y (exit a) = []
+later (Head q g) s x y (direct a g1) = []
+later (Head q g) s x y (call a g1 g2) = returns s x a y g1 g2 q ∷ []
+later (Triple q g e) s x y ρ = []
+
 abbrev pub chances : Goal → Step → (x y : ℕ) → Rule → List Way
-chances Nothing s x y ρ = []
-chances (Head q g) s x y (exit a) = []
-chances (Head q g) s x y (direct a g1) = enters s x a y g1 ∷ []
-chances (Head q g) s x y (call a g1 g2) = enters s x a y g1 ∷ returns s x a y g1 g2 q ∷ []
-chances (Triple q g e) s x y (exit a) = leaves s q a y ∷ []
-chances (Triple q g e) s x y (direct a g1) = backs s q a y g1 e ∷ []
-chances (Triple q g e) s x y (call a g1 g2) = meets s q a y g1 g2 x e ∷ []
+chances f s x y ρ = sooner f s x y ρ ++ later f s x y ρ
 
 abbrev pub chancesTo : Goal → Step → ℕ → Rule → Option ℕ → List Way
 chancesTo f s x ρ none = []

@@ -5,6 +5,7 @@ ghost use Rattle.explain.specs.Answers.{foundAs, rankOf};
 ghost use Rattle.explain.specs.Search.{whyIn};
 use table::Size;
 
+mod ways; // the ways in which a step may give a fact
 mod why; // a step tried for a fact
 
 // How many symbols, states, rules and moves a model has.
@@ -35,6 +36,14 @@ pub enum Found {
     Nowhere,
 }
 
+// A step that is tried: its rule and move, the one free state, and the state that it leads to.
+struct Step {
+    rule: usize,
+    by: usize,
+    free: usize,
+    to: usize,
+}
+
 // The rank of the fact that is asked for; where none is, 0.
 pub fn rank_of<'a>(heads: &'a [u16], triples: &'a [u16], size: Size, f: Goal) -> u16
     ensures { λ k. ⌜ k ≡ rankOf (view (size .symbols) (size .states) (now (heads .entry)) (now (triples .entry))) f ⌝ }
@@ -61,13 +70,15 @@ pub fn explain<'a>(
 {
     let size = n.size;
     let states = size.states as usize;
+    let rule_count = n.rules;
+    let move_count = n.moves;
     let mut r: usize = 0;
     'found: loop {
-        if n.rules <= r {
+        if rule_count <= r {
             break 'found Found::Nowhere;
         }
         let mut v: usize = 0;
-        'moves: while v < n.moves {
+        'moves: while v < move_count {
             let mut x: usize = 0;
             'states: while x < states {
                 let w = why::tried(rules, moves, shows, heads, triples, size, k, f, r, v, x);

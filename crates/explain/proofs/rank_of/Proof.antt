@@ -4,19 +4,19 @@ use Rattle.explain.proofs.rank_of.Statement.{statement}
 use Rattle.explain.proofs.rank_of.Tie as tie
 
 enum-told : tie.Need-enum-told
-enum-told c = search needs
+enum-told c = c .match .keys1
 
 enum-known-f : tie.Need-enum-known-f
-enum-known-f c = search needs
+enum-known-f c = c .match .keys2
 
 head-at-requires : tie.Need-head-at-requires
-head-at-requires c κs = search needs
+head-at-requires c κs = tt
 
 enum-known-f-2 : tie.Need-enum-known-f-2
-enum-known-f-2 c = search needs
+enum-known-f-2 c = c .match .keys3
 
 triple-at-requires : tie.Need-triple-at-requires
-triple-at-requires c κs = search needs
+triple-at-requires c κs = tt
 
 returns : tie.Need-returns
 returns c = search needs

@@ -1,42 +1,26 @@
 -- `explain::why::is_lower` meets its contract. Assumes nothing.
-use borrow.Author.Needs.{needs}
+use Rattle.table.specs.Cells.{view}
 use Rattle.explain.proofs.Tried.{lower-one}
+use borrow.Author.Needs.{needs}
 use Rattle.explain.proofs.why.is_lower.Statement.{statement}
 use Rattle.explain.proofs.why.is_lower.Tie as tie
+use Rattle.explain.proofs.why.is_lower.Reads as reads
+use Rattle.explain.proofs.why.is_lower.Lts as lts
+use Rattle.explain.proofs.rank_of.Reads as rank-of-reads
 
 enum-told : tie.Need-enum-told
-enum-told c = search needs
-
-enum-known-f : tie.Need-enum-known-f
-enum-known-f c = search needs
-
-head-at-requires : tie.Need-head-at-requires
-head-at-requires c κs = search needs
-
-enum-known-f-2 : tie.Need-enum-known-f-2
-enum-known-f-2 c = search needs
-
-triple-at-requires : tie.Need-triple-at-requires
-triple-at-requires c κs = search needs
+enum-told c = c .match .keys1
 
 returns : tie.Need-returns
 returns c = search needs
 
-returns-2 : tie.Need-returns-2
-returns-2 c = rw (c .before .before .f .given .1) (lower-one _ (c .head-at .ensures))
+rank-of-requires : tie.Need-rank-of-requires
+rank-of-requires c κs = tt
 
-returns-3 : tie.Need-returns-3
-returns-3 c = rw (c .before .before .f2 .given .1) (lower-one _ (c .triple-at .ensures))
+returns-2 : tie.Need-returns-2
+returns-2 c =
+    let a = c .before .before .before .before .args in
+    lower-one (view (a .size .symbols) (a .size .states) (a .heads .now) (a .triples .now)) (a .k) (a .f) (c .before .match .keys2) (c .rank-of .ensures)
 
 pub is-lower-spec : {M : Type 1} → statement M
-is-lower-spec =
-    tie.close
-    (tie.spec
-    enum-told
-    enum-known-f
-    head-at-requires
-    enum-known-f-2
-    triple-at-requires
-    returns
-    returns-2
-    returns-3)
+is-lower-spec = tie.close (tie.spec enum-told returns rank-of-requires returns-2)
