@@ -3,7 +3,7 @@ use mathlib.Core.Bool.{Bool}
 use mathlib.Core.List.{List, [], _∷_}
 use mathlib.Core.Option.{Option, none, some}
 use mathlib.Core.Path.{_≡_, refl, subst, subst⁻¹}
-use Prim.Native.Nat.{ℕ, _<_}
+use Prim.Native.Nat.{ℕ, zero, suc, _<_}
 use native.Mathlib.Omega.{arith}
 use lib.Dec.{T, ltb→lt}
 use Rattle.product.specs.Lists.{All, all}
@@ -18,7 +18,7 @@ use Rattle.explain.specs.declared.Goal.the-variants.{Head, Triple, Nothi
 use Rattle.explain.specs.declared.Cause.{Cause}
 use Rattle.explain.specs.declared.Found.{Found}
 use Rattle.explain.specs.declared.Found.the-variants.{By}
-use Rattle.explain.specs.Search.{lower, gives, explains, stepOf, source, chancesTo, tried, triedAt, byMove, byRule, searched}
+use Rattle.explain.specs.Search.{lower, gives, explains, stepOf, source, chancesTo, tried, triedAt, byMove, byRule, searched, byRank}
 use Rattle.explain.specs.Answers.{goalOf, firstIn, secondIn, causeOf, foundAs, rankOf}
 use Rattle.explain.proofs.First.{first-elim, find-elim}
 use Rattle.explain.proofs.Tried.{found-some}
@@ -82,15 +82,23 @@ module _ (rules moves : ℕ) (t : Table) (k : ℕ) where
 pub same-cause : {c c′ : Cause} → By c ≡ By c′ → c ≡ c′
 same-cause e = cc
 
--- what was found for a fact of rank above 0 falls
-pub found-falls : (rulerows moverows : List ℕ) (shows : List Bool) (rules moves states : ℕ) (t : Table) (k : ℕ) (f : Goal) → (k ≡ 0 → ⊥) → {d : Found}
-    → d ≡ foundAs (searched rulerows moverows shows (lower t k) f rules moves states) → {c : Cause} → d ≡ By c → Falls rules moves t k c
-found-falls rulerows moverows shows rules moves states t k f pos read {c} told =
-    let (w, is, by) = found-some (searched rulerows moverows shows (lower t k) f rules moves states) read told in
-    let e : c ≡ causeOf w = same-cause by in
-    subst⁻¹ (Falls rules moves t k) e
-    (falls-by rules moves t k (omega arith) w
-    (first-elim (Sound rules moves t k) (byRule rulerows moverows shows (lower t k) f moves states) rules
-    (λ r w i. first-elim (Sound rules moves t k) (byMove rulerows moverows shows (lower t k) f states r) moves
-    (λ v w j. first-elim (Sound rules moves t k) (triedAt rulerows moverows shows (lower t k) f r v) states
-    (λ x w _. sound-tried rules moves t k f r v x i j (ruleAt rulerows r) (nextAt rulerows moverows shows r v (source f x)) w) w) w) w is))
+-- what was found for a fact falls
+module _ (rulerows moverows : List ℕ) (shows : List Bool) (rules moves states : ℕ) (t : Table) (f : Goal) where
+  abbrev why : ℕ → Goal → Option Way
+  why k f = searched rulerows moverows shows (lower t k) f rules moves states
+
+  sound-why : (k : ℕ) (w : Way) → why k f ≡ some w → Sound rules moves t k w
+  sound-why k w is =
+      first-elim (Sound rules moves t k) (byRule rulerows moverows shows (lower t k) f moves states) rules
+      (λ r w i. first-elim (Sound rules moves t k) (byMove rulerows moverows shows (lower t k) f states r) moves
+      (λ v w j. first-elim (Sound rules moves t k) (triedAt rulerows moverows shows (lower t k) f r v) states
+      (λ x w _. sound-tried rules moves t k f r v x i j (ruleAt rulerows r) (nextAt rulerows moverows shows r v (source f x)) w) w) w) w is
+
+  falls-at : (k : ℕ) {d : Found} → d ≡ foundAs (byRank why f k) → {c : Cause} → d ≡ By c → Falls rules moves t k c
+  falls-at zero read told = let z : _≡_ {A = ℕ} 0 1 = cc in absurd (omega arith)
+  falls-at (suc k) read told =
+      let (w, is, by) = found-some (why (suc k) f) read told in
+      subst⁻¹ (Falls rules moves t (suc k)) (same-cause by) (falls-by rules moves t (suc k) (omega arith) w (sound-why (suc k) w is))
+
+  pub found-falls : {d : Found} → d ≡ foundAs (byRank why f (rankOf t f)) → {c : Cause} → d ≡ By c → Falls rules moves t (rankOf t f) c
+  found-falls = falls-at (rankOf t f)

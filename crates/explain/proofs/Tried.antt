@@ -4,7 +4,7 @@ use mathlib.Core.List.{List, [], _∷_, _++_}
 use mathlib.Core.Logic.{⊎-elim}
 use mathlib.Core.Option.{Option, none, some}
 use mathlib.Core.Path.{_≡_, refl, sym, ap, ap₂, _∙_}
-use Prim.Native.Nat.{ℕ, _<_}
+use Prim.Native.Nat.{ℕ, zero, suc, _<_}
 use lib.Dec.{ltb}
 use native.Mathlib.Omega.{arith}
 use denote.Enum.Declared.{tagOf}
@@ -29,7 +29,7 @@ use Rattle.explain.specs.declared.Cause.{Cause}
 use Rattle.explain.specs.declared.Found.{Found}
 use Rattle.explain.specs.declared.Found.the-variants.{By, Nowhere}
 use Rattle.explain.specs.Answers.{rankOf, factIn, needsOf, ifHas, orFound, causeOf, foundAs}
-use Rattle.explain.specs.Search.{lower, stepOf, gives, explains, givenBy, source, sooner, later, chances, tried, triedAt, byMove, byRule, searched}
+use Rattle.explain.specs.Search.{lower, stepOf, gives, explains, givenBy, source, sooner, later, chances, tried, triedAt, byMove, byRule, searched, byRank}
 use Rattle.explain.specs.First.{orElse, firstOf}
 use Rattle.explain.proofs.First.{first-here, find-append}
 use Rattle.explain.proofs.Given.{and-true, found-if}
@@ -129,3 +129,8 @@ module _ (rulerows moverows : List ℕ) (shows : List Bool) (h : Fact → Bool) 
       (first-here (byRule rulerows moverows shows h f moves states) rules r w i a
       (first-here (byMove rulerows moverows shows h f states r) moves v w j b
       (first-here (triedAt rulerows moverows shows h f r v) states x w k e is))))
+
+-- a rank above 0
+pub by-rank : (why : ℕ → Goal → Option Way) (f : Goal) (k : ℕ) → (k ≡ 0 → ⊥) → {d : Found} → d ≡ foundAs (why k f) → d ≡ foundAs (byRank why f k)
+by-rank why f zero n e = absurd (n refl)
+by-rank why f (suc k) n e = e

@@ -2,7 +2,7 @@
 use mathlib.Core.Bool.{Bool, false, _&&_}
 use mathlib.Core.List.{List, [], _∷_, _++_}
 use mathlib.Core.Option.{Option, none, some}
-use Prim.Native.Nat.{ℕ}
+use Prim.Native.Nat.{ℕ, zero, suc}
 use lib.Dec.{ltb}
 use Rattle.product.specs.Lists.{all, find}
 use Rattle.product.specs.Product.{Rule, exit, direct, call, Step}
@@ -89,3 +89,8 @@ module _ (rulerows moverows : List ℕ) (shows : List Bool) (h : Fact → Bool) 
 abbrev pub whyIn : (rulerows moverows : List ℕ) → (shows : List Bool) → (symbols states : ℕ) → (heads triples : List ℕ) → (rules moves : ℕ) → ℕ → Goal → Option Way
 whyIn rulerows moverows shows symbols states heads triples rules moves k f =
     searched rulerows moverows shows (below symbols states heads triples k) f rules moves states
+
+-- the explanation of a fact by its rank; one of rank 0 has none
+abbrev pub byRank : (ℕ → Goal → Option Way) → Goal → ℕ → Option Way
+byRank why f zero = none
+byRank why f (suc k) = why (suc k) f

@@ -2,7 +2,7 @@
 ghost use mathlib.Core.Path.{_≡_};
 ghost use Rattle.table.specs.Cells.{view};
 ghost use Rattle.explain.specs.Answers.{foundAs, rankOf};
-ghost use Rattle.explain.specs.Search.{whyIn};
+ghost use Rattle.explain.specs.Search.{whyIn, byRank};
 use table::Size;
 
 mod ways; // the ways in which a step may give a fact
@@ -45,7 +45,7 @@ struct Step {
 }
 
 // The rank of the fact that is asked for; where none is, 0.
-pub fn rank_of<'a>(heads: &'a [u16], triples: &'a [u16], size: Size, f: Goal) -> u16
+fn rank_of<'a>(heads: &'a [u16], triples: &'a [u16], size: Size, f: Goal) -> u16
     ensures { λ k. ⌜ k ≡ rankOf (view (size .symbols) (size .states) (now (heads .entry)) (now (triples .entry))) f ⌝ }
 {
     match f {
@@ -55,8 +55,8 @@ pub fn rank_of<'a>(heads: &'a [u16], triples: &'a [u16], size: Size, f: Goal) ->
     }
 }
 
-// The explanation of a fact of rank k: the first rule, then the first move, then the lowest state whose needed facts all have lower rank.
-pub fn explain<'a>(
+// By the first rule, then the first move, then the lowest state whose needed facts all have rank below k.
+fn first_cause<'a>(
     rules: &'a [u8; 1024],
     moves: &'a [u8; 384],
     shows: &'a [bool; 512],
@@ -91,4 +91,24 @@ pub fn explain<'a>(
         }
         r += 1;
     }
+}
+
+// The explanation of a fact; one of rank 0 has none.
+pub fn explain<'a>(
+    rules: &'a [u8; 1024],
+    moves: &'a [u8; 384],
+    shows: &'a [bool; 512],
+    heads: &'a [u16],
+    triples: &'a [u16],
+    n: Counts,
+    f: Goal,
+) -> Found
+    ensures { λ w. ⌜ w ≡ foundAs (byRank (whyIn (now (rules .entry)) (now (moves .entry)) (now (shows .entry)) (n .size .symbols) (n .size .states) (now (heads .entry)) (now (triples .entry)) (n .rules) (n .moves)) f (rankOf (view (n .size .symbols) (n .size .states) (now (heads .entry)) (now (triples .entry))) f)) ⌝ }
+{
+    let size = n.size;
+    let k = rank_of(heads, triples, size, f);
+    if k == 0 {
+        return Found::Nowhere;
+    }
+    first_cause(rules, moves, shows, heads, triples, n, k, f)
 }

@@ -37,7 +37,7 @@ symbols-holds : tie.Need-symbols-holds Inv-symbols μ-symbols Inv-found μ-found
 symbols-holds c = (omega arith, first-none _)
 
 guilty-head-requires : tie.Need-guilty-head-requires Inv-symbols μ-symbols Inv-found μ-found
-guilty-head-requires c κs = search needs
+guilty-head-requires c κs = tt
 
 add-g : tie.Need-add-g Inv-symbols μ-symbols Inv-found μ-found
 add-g c = search needs

@@ -25,7 +25,7 @@ states-holds : tie.Need-states-holds Inv-states μ-states
 states-holds c = (omega arith, first-none _)
 
 guilty-triple-requires : tie.Need-guilty-triple-requires Inv-states μ-states
-guilty-triple-requires c κs = search needs
+guilty-triple-requires c κs = tt
 
 returns : tie.Need-returns Inv-states μ-states
 returns c =

@@ -1,8 +1,8 @@
--- `trace::steps::put` meets its contract. Assumes nothing.
+-- `trace::put` meets its contract. Assumes nothing.
 use borrow.Author.Needs.{needs}
 use Rattle.trace.proofs.Wrote.{wrote-full}
-use Rattle.trace.proofs.steps.put.Statement.{statement}
-use Rattle.trace.proofs.steps.put.Tie as tie
+use Rattle.trace.proofs.put.Statement.{statement}
+use Rattle.trace.proofs.put.Tie as tie
 
 add-result : tie.Need-add-result
 add-result c = search needs
