@@ -1,6 +1,7 @@
 -- `trace::put` meets its contract. Assumes nothing.
 use borrow.Author.Needs.{needs}
-use Rattle.trace.proofs.Wrote.{wrote-full}
+use native.Mathlib.Omega.{arith}
+use Rattle.trace.proofs.Wrote.{wrote-full, wrote-one}
 use Rattle.trace.proofs.put.Statement.{statement}
 use Rattle.trace.proofs.put.Tie as tie
 
@@ -32,7 +33,7 @@ same-length : tie.Need-same-length
 same-length c = search needs
 
 returns-2 : tie.Need-returns-2
-returns-2 c = search needs
+returns-2 c = wrote-one _ _ _ (omega arith)
 
 pub put-spec : {M : Type 1} → statement M
 put-spec =
