@@ -15,7 +15,7 @@ use Rattle.explain.specs.declared.Found.the-variants.{By, Nowhere}
 use Rattle.explain.specs.Answers.{causeOf, foundAs}
 use Rattle.explain.specs.Search.{stepOf, gives, givenBy, sooner}
 
-pub and-true : (b : Bool) → (b && true) ≡ b
+and-true : (b : Bool) → (b && true) ≡ b
 and-true true = refl
 and-true false = refl
 

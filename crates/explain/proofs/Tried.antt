@@ -1,14 +1,11 @@
 -- A step tried for a fact, by the tests of the code. Assumes nothing.
 use mathlib.Core.Bool.{Bool, true, false, cond, _&&_}
 use mathlib.Core.List.{List, [], _∷_, _++_}
-use mathlib.Core.Logic.{⊎-elim}
 use mathlib.Core.Option.{Option, none, some}
 use mathlib.Core.Path.{_≡_, refl, sym, ap, ap₂, _∙_}
-use Prim.Native.Nat.{ℕ, zero, suc, _<_}
-use lib.Dec.{ltb}
+use Prim.Native.Nat.{ℕ, zero, suc, _-_, _<_, _≤_}
 use native.Mathlib.Omega.{arith}
-use denote.Enum.Declared.{tagOf}
-use types.Run.{OneOf}
+use borrow.Author.Tests.{lt-ltb, le-ltb}
 use Rattle.product.specs.Lists.{all, find}
 use Rattle.product.specs.Product as product
 use Rattle.product.specs.Product.{exit, direct, call, Step}
@@ -23,7 +20,6 @@ use Rattle.model.specs.Answers.{ruleAs, meant, nextAs, landed}
 use Rattle.model.proofs.Answers.{meant-as}
 use Rattle.model.proofs.Bounds.{landed-as}
 use Rattle.explain.specs.declared.Goal.{Goal}
-use Rattle.explain.proofs.Goal.{the-type}
 use Rattle.explain.specs.declared.Goal.the-variants.{Head, Triple, Nothing}
 use Rattle.explain.specs.declared.Cause.{Cause}
 use Rattle.explain.specs.declared.Found.{Found}
@@ -32,13 +28,19 @@ use Rattle.explain.specs.Answers.{rankOf, factIn, needsOf, ifHas, orFoun
 use Rattle.explain.specs.Search.{lower, stepOf, gives, explains, givenBy, source, sooner, later, chances, tried, triedAt, byMove, byRule, searched, byRank}
 use Rattle.explain.specs.First.{orElse, firstOf}
 use Rattle.explain.proofs.First.{first-here, find-append}
-use Rattle.explain.proofs.Given.{and-true, found-if}
+use Rattle.explain.proofs.Given.{found-if}
 
--- a fact that is asked for, a head or a triple, by its rank
-pub lower-one : (t : Table) (k : ℕ) (f : Goal) → OneOf (1 ∷ 2 ∷ []) (tagOf the-type f) → {n : ℕ} → n ≡ rankOf t f → ltb n k ≡ all (lower t k) (factIn f)
-lower-one t k Nothing is e = absurd (⊎-elim (λ i. omega arith) (λ i. omega arith) is)
-lower-one t k (Head q g) is e = ap (λ n. ltb n k) e ∙ sym (and-true (ltb (t (head q g)) k))
-lower-one t k (Triple q g x) is e = ap (λ n. ltb n k) e ∙ sym (and-true (ltb (t (triple q g x)) k))
+-- a fact that is asked for, by its rank; where none is, that is 0
+module _ (t : Table) (k : ℕ) where
+  pub low : (f : Goal) {r : ℕ} → r ≡ rankOf t f → r ≤ k → all (lower t (suc k)) (factIn f) ≡ true
+  low Nothing e l = refl
+  low (Head q g) e l = rw (lt-ltb (t (head q g)) (suc k) (omega (arith, e)))
+  low (Triple q g x) e l = rw (lt-ltb (t (triple q g x)) (suc k) (omega (arith, e)))
+
+  pub high : (f : Goal) {r : ℕ} → r ≡ rankOf t f → k < r → all (lower t (suc k)) (factIn f) ≡ false
+  high Nothing e l = absurd (omega (arith, e))
+  high (Head q g) e l = rw (le-ltb (t (head q g)) (suc k) (omega (arith, e)))
+  high (Triple q g x) e l = rw (le-ltb (t (triple q g x)) (suc k) (omega (arith, e)))
 
 -- a cause, by the tests of what it needs
 module _ (h : Fact → Bool) (c : Cause) where
@@ -46,16 +48,19 @@ module _ (h : Fact → Bool) (c : Cause) where
   parts = all-append h (factIn (c .before)) (factIn (c .first) ++ factIn (c .second))
       ∙ ap (λ b. all h (factIn (c .before)) && b) (all-append h (factIn (c .first)) (factIn (c .second)))
 
-  module _ {x : Bool} (one : x ≡ all h (factIn (c .before))) where
-    pub lacks-before : x ≡ false → false ≡ all h (needsOf c)
-    lacks-before n = rw (parts, ← one, n)
+  pub lacks-before : all h (factIn (c .before)) ≡ false → Nowhere ≡ ifHas h (By c)
+  lacks-before n = rw (parts, n)
 
-    module _ {y : Bool} (two : y ≡ all h (factIn (c .first))) (a : x ≡ true) where
-      pub lacks-first : y ≡ false → false ≡ all h (needsOf c)
-      lacks-first n = rw (parts, ← one, a, ← two, n)
+  module _ (a : all h (factIn (c .before)) ≡ true) where
+    pub lacks-first : all h (factIn (c .first)) ≡ false → Nowhere ≡ ifHas h (By c)
+    lacks-first n = rw (parts, a, n)
 
-      pub has-both : {z : Bool} → z ≡ all h (factIn (c .second)) → y ≡ true → z ≡ all h (needsOf c)
-      has-both three b = rw (parts, ← one, a, ← two, b, ← three)
+    module _ (b : all h (factIn (c .first)) ≡ true) where
+      pub lacks-second : all h (factIn (c .second)) ≡ false → Nowhere ≡ ifHas h (By c)
+      lacks-second n = rw (parts, a, b, n)
+
+      pub has-all : all h (factIn (c .second)) ≡ true → By c ≡ ifHas h (By c)
+      has-all d = rw (parts, a, b, d)
 
 -- one way: first what it gives, and then what it needs
 has-one : (h : Fact → Bool) (f : Goal) (w : Way) → needsOf (causeOf w) ≡ needs w → ifHas h (foundAs (givenBy f (w ∷ []))) ≡ foundAs (find (explains h f) (w ∷ []))
@@ -131,6 +136,6 @@ module _ (rulerows moverows : List ℕ) (shows : List Bool) (h : Fact → Bool) 
       (first-here (triedAt rulerows moverows shows h f r v) states x w k e is))))
 
 -- a rank above 0
-pub by-rank : (why : ℕ → Goal → Option Way) (f : Goal) (k : ℕ) → (k ≡ 0 → ⊥) → {d : Found} → d ≡ foundAs (why k f) → d ≡ foundAs (byRank why f k)
+pub by-rank : (why : ℕ → Goal → Option Way) (f : Goal) (k : ℕ) → (k ≡ 0 → ⊥) → {d : Found} → d ≡ foundAs (why (suc (k - 1)) f) → d ≡ foundAs (byRank why f k)
 by-rank why f zero n e = absurd (n refl)
-by-rank why f (suc k) n e = e
+by-rank why f (suc k) n e = e ∙ ap (λ k. foundAs (why k f)) (omega arith)

@@ -1,5 +1,6 @@
 // The explanation of a fact in a table of ranks: the first rule, then the first move, then the lowest state whose needed facts all have lower rank.
 ghost use mathlib.Core.Path.{_≡_};
+ghost use Prim.Native.Nat.{suc};
 ghost use Rattle.table.specs.Cells.{view};
 ghost use Rattle.explain.specs.Answers.{foundAs, rankOf};
 ghost use Rattle.explain.specs.Search.{whyIn, byRank};
@@ -55,7 +56,7 @@ fn rank_of<'a>(heads: &'a [u16], triples: &'a [u16], size: Size, f: Goal) -> u16
     }
 }
 
-// By the first rule, then the first move, then the lowest state whose needed facts all have rank below k.
+// By the first rule, then the first move, then the lowest state whose needed facts all have rank at most k.
 fn first_cause<'a>(
     rules: &'a [u8; 1024],
     moves: &'a [u8; 384],
@@ -66,7 +67,7 @@ fn first_cause<'a>(
     k: u16,
     f: Goal,
 ) -> Found
-    ensures { λ w. ⌜ w ≡ foundAs (whyIn (now (rules .entry)) (now (moves .entry)) (now (shows .entry)) (n .size .symbols) (n .size .states) (now (heads .entry)) (now (triples .entry)) (n .rules) (n .moves) k f) ⌝ }
+    ensures { λ w. ⌜ w ≡ foundAs (whyIn (now (rules .entry)) (now (moves .entry)) (now (shows .entry)) (n .size .symbols) (n .size .states) (now (heads .entry)) (now (triples .entry)) (n .rules) (n .moves) (suc k) f) ⌝ }
 {
     let size = n.size;
     let states = size.states as usize;
@@ -110,5 +111,5 @@ pub fn explain<'a>(
     if k == 0 {
         return Found::Nowhere;
     }
-    first_cause(rules, moves, shows, heads, triples, n, k, f)
+    first_cause(rules, moves, shows, heads, triples, n, k - 1, f)
 }

@@ -1,9 +1,8 @@
 // A step tried for a fact: of the ways that give it, the first whose needed facts all have lower rank.
 ghost use mathlib.Core.Path.{_≡_};
-ghost use Rattle.product.specs.Lists.{all};
-ghost use Rattle.explain.specs.Answers.{foundAs, factIn, needsOf, ifHas, orFound};
+ghost use Prim.Native.Nat.{suc};
+ghost use Rattle.explain.specs.Answers.{foundAs, ifHas, orFound};
 ghost use Rattle.explain.specs.Search.{below, source, triedAt};
-use crate::Cause;
 use crate::Found;
 use crate::Goal;
 use crate::Step;
@@ -12,48 +11,29 @@ use crate::ways;
 use model::Next;
 use table::Size;
 
-// No fact is asked for, or one of rank below k.
-fn is_lower<'a>(heads: &'a [u16], triples: &'a [u16], size: Size, k: u16, f: Goal) -> bool
-    ensures { λ b. ⌜ b ≡ all (below (size .symbols) (size .states) (now (heads .entry)) (now (triples .entry)) k) (factIn f) ⌝ }
+// The cause, if all that it needs has rank at most k. What is not needed has rank 0.
+fn if_lower<'a>(heads: &'a [u16], triples: &'a [u16], size: Size, k: u16, w: Found) -> Found
+    ensures { λ d. ⌜ d ≡ ifHas (below (size .symbols) (size .states) (now (heads .entry)) (now (triples .entry)) (suc k)) w ⌝ }
 {
-    if let Goal::Nothing = f {
-        return true;
-    }
-    rank_of(heads, triples, size, f) < k
-}
-
-// All that the cause needs has rank below k.
-fn all_lower<'a>(heads: &'a [u16], triples: &'a [u16], size: Size, k: u16, c: Cause) -> bool
-    ensures { λ b. ⌜ b ≡ all (below (size .symbols) (size .states) (now (heads .entry)) (now (triples .entry)) k) (needsOf c) ⌝ }
-{
+    let Found::By(c) = w else {
+        return Found::Nowhere;
+    };
     let before = c.before;
-    if !is_lower(heads, triples, size, k, before) {
-        return false;
+    if rank_of(heads, triples, size, before) > k {
+        return Found::Nowhere;
     }
     let first = c.first;
-    if !is_lower(heads, triples, size, k, first) {
-        return false;
+    if rank_of(heads, triples, size, first) > k {
+        return Found::Nowhere;
     }
     let second = c.second;
-    is_lower(heads, triples, size, k, second)
-}
-
-// The cause, if all that it needs has rank below k.
-fn if_lower<'a>(heads: &'a [u16], triples: &'a [u16], size: Size, k: u16, w: Found) -> Found
-    ensures { λ d. ⌜ d ≡ ifHas (below (size .symbols) (size .states) (now (heads .entry)) (now (triples .entry)) k) w ⌝ }
-{
-    match w {
-        Found::Nowhere => Found::Nowhere,
-        Found::By(c) => {
-            if all_lower(heads, triples, size, k, c) {
-                return Found::By(c);
-            }
-            Found::Nowhere
-        }
+    if rank_of(heads, triples, size, second) > k {
+        return Found::Nowhere;
     }
+    Found::By(c)
 }
 
-// The first of two causes whose needed facts all have rank below k.
+// The first of two causes whose needed facts all have rank at most k.
 fn first_lower<'a>(
     heads: &'a [u16],
     triples: &'a [u16],
@@ -62,7 +42,7 @@ fn first_lower<'a>(
     first: Found,
     second: Found,
 ) -> Found
-    ensures { λ d. ⌜ d ≡ orFound (ifHas (below (size .symbols) (size .states) (now (heads .entry)) (now (triples .entry)) k) first) (ifHas (below (size .symbols) (size .states) (now (heads .entry)) (now (triples .entry)) k) second) ⌝ }
+    ensures { λ d. ⌜ d ≡ orFound (ifHas (below (size .symbols) (size .states) (now (heads .entry)) (now (triples .entry)) (suc k)) first) (ifHas (below (size .symbols) (size .states) (now (heads .entry)) (now (triples .entry)) (suc k)) second) ⌝ }
 {
     let w = if_lower(heads, triples, size, k, first);
     match w {
@@ -96,7 +76,7 @@ pub fn tried<'a>(
     v: usize,
     x: usize,
 ) -> Found
-    ensures { λ w. ⌜ w ≡ foundAs (triedAt (now (rules .entry)) (now (moves .entry)) (now (shows .entry)) (below (size .symbols) (size .states) (now (heads .entry)) (now (triples .entry)) k) f r v x) ⌝ }
+    ensures { λ w. ⌜ w ≡ foundAs (triedAt (now (rules .entry)) (now (moves .entry)) (now (shows .entry)) (below (size .symbols) (size .states) (now (heads .entry)) (now (triples .entry)) (suc k)) f r v x) ⌝ }
 {
     let next = model::next_state(rules, moves, shows, r, v, source(f, x));
     match next {
