@@ -24,7 +24,7 @@ use Rattle.explain.specs.declared.Goal.the-variants.{Head, Triple, Nothi
 use Rattle.explain.specs.declared.Cause.{Cause}
 use Rattle.explain.specs.declared.Found.{Found}
 use Rattle.explain.specs.declared.Found.the-variants.{By, Nowhere}
-use Rattle.explain.specs.Answers.{rankOf, factIn, needsOf, ifHas, orFound, causeOf, foundAs}
+use Rattle.explain.specs.Answers.{rankOf, factIn, needsOf, hasAll, firstHas, causeOf, foundAs}
 use Rattle.explain.specs.Search.{lower, stepOf, gives, explains, givenBy, source, sooner, later, chances, tried, triedAt, byMove, byRule, searched, byRank}
 use Rattle.explain.specs.First.{orElse, firstOf}
 use Rattle.explain.proofs.First.{first-here, find-append}
@@ -48,19 +48,34 @@ module _ (h : Fact → Bool) (c : Cause) where
   parts = all-append h (factIn (c .before)) (factIn (c .first) ++ factIn (c .second))
       ∙ ap (λ b. all h (factIn (c .before)) && b) (all-append h (factIn (c .first)) (factIn (c .second)))
 
-  pub lacks-before : all h (factIn (c .before)) ≡ false → Nowhere ≡ ifHas h (By c)
+  pub lacks-before : all h (factIn (c .before)) ≡ false → false ≡ hasAll h (By c)
   lacks-before n = rw (parts, n)
 
   module _ (a : all h (factIn (c .before)) ≡ true) where
-    pub lacks-first : all h (factIn (c .first)) ≡ false → Nowhere ≡ ifHas h (By c)
+    pub lacks-first : all h (factIn (c .first)) ≡ false → false ≡ hasAll h (By c)
     lacks-first n = rw (parts, a, n)
 
     module _ (b : all h (factIn (c .first)) ≡ true) where
-      pub lacks-second : all h (factIn (c .second)) ≡ false → Nowhere ≡ ifHas h (By c)
+      pub lacks-second : all h (factIn (c .second)) ≡ false → false ≡ hasAll h (By c)
       lacks-second n = rw (parts, a, b, n)
 
-      pub has-all : all h (factIn (c .second)) ≡ true → By c ≡ ifHas h (By c)
+      pub has-all : all h (factIn (c .second)) ≡ true → true ≡ hasAll h (By c)
       has-all d = rw (parts, a, b, d)
+
+abbrev ifHas : (Fact → Bool) → Found → Found
+ifHas h w = cond (hasAll h w) w Nowhere
+
+abbrev orFound : Found → Found → Found
+orFound (By c) d = By c
+orFound Nowhere d = d
+
+first-has : (h : Fact → Bool) (a b : Found) → firstHas h a b ≡ orFound (ifHas h a) (ifHas h b)
+first-has h Nowhere b = refl
+first-has h (By c) b = go (all h (needsOf c))
+  where
+    go : (x : Bool) → cond x (By c) (ifHas h b) ≡ orFound (cond x (By c) Nowhere) (ifHas h b)
+    go true = refl
+    go false = refl
 
 -- one way: first what it gives, and then what it needs
 has-one : (h : Fact → Bool) (f : Goal) (w : Way) → needsOf (causeOf w) ≡ needs w → ifHas h (foundAs (givenBy f (w ∷ []))) ≡ foundAs (find (explains h f) (w ∷ []))
@@ -112,9 +127,10 @@ module _ (rulerows moverows : List ℕ) (shows : List Bool) (h : Fact → Bool) 
 
   pub tried-to : {y : ℕ} → n ≡ To y → {ρ : Rule} → ρ ≡ ruleAs (ruleAt rulerows r)
       → {a : Found} → a ≡ foundAs (givenBy f (sooner f (stepOf r v) x y (meant ρ))) → {b : Found} → b ≡ foundAs (givenBy f (later f (stepOf r v) x y (meant ρ)))
-      → {d : Found} → d ≡ orFound (ifHas h a) (ifHas h b) → d ≡ foundAs (triedAt rulerows moverows shows h f r v x)
-  tried-to {y} i {ρ} k one two e =
+      → {d : Found} → d ≡ firstHas h a b → d ≡ foundAs (triedAt rulerows moverows shows h f r v x)
+  tried-to {y} i {ρ} k {a} one {b} two e =
       e
+      ∙ first-has h a b
       ∙ ap₂ (λ a b. orFound (ifHas h a) (ifHas h b)) one two
       ∙ ap₂ orFound (has-sooner h (stepOf r v) x y f (meant ρ)) (has-later h (stepOf r v) x y f (meant ρ))
       ∙ found-or (find (explains h f) (sooner f (stepOf r v) x y (meant ρ))) (find (explains h f) (later f (stepOf r v) x y (meant ρ)))

@@ -1,5 +1,5 @@
 -- The answers of the code as the theory has them: a fact that is asked for, and a way that was found. Assumes nothing.
-use mathlib.Core.Bool.{Bool, cond}
+use mathlib.Core.Bool.{Bool, false, cond}
 use mathlib.Core.List.{List, [], _∷_, _++_}
 use mathlib.Core.Option.{Option, none, some}
 use Prim.Native.Nat.{ℕ}
@@ -41,7 +41,7 @@ rankOf t Nothing = 0
 rankOf t (Head q g) = t (head q g)
 rankOf t (Triple q g e) = t (triple q g e)
 
--- the facts that a cause needs, and the cause, if the set h has them all
+-- the facts that a cause needs; and the set h has them all
 abbrev pub factIn : Goal → List Fact
 factIn Nothing = []
 factIn (Head q g) = head q g ∷ []
@@ -50,11 +50,10 @@ factIn (Triple q g e) = triple q g e ∷ []
 abbrev pub needsOf : Cause → List Fact
 needsOf c = factIn (c .before) ++ (factIn (c .first) ++ factIn (c .second))
 
-abbrev pub ifHas : (Fact → Bool) → Found → Found
-ifHas h Nowhere = Nowhere
-ifHas h (By c) = cond (all h (needsOf c)) (By c) Nowhere
+abbrev pub hasAll : (Fact → Bool) → Found → Bool
+hasAll h Nowhere = false
+hasAll h (By c) = all h (needsOf c)
 
--- the first of two that is found
-abbrev pub orFound : Found → Found → Found
-orFound (By c) d = By c
-orFound Nowhere d = d
+-- the first of two that the set has
+abbrev pub firstHas : (Fact → Bool) → Found → Found → Found
+firstHas h a b = cond (hasAll h a) a (cond (hasAll h b) b Nowhere)

@@ -1,7 +1,7 @@
 // A step tried for a fact: of the ways that give it, the first whose needed facts all have lower rank.
 ghost use mathlib.Core.Path.{_≡_};
 ghost use Prim.Native.Nat.{suc};
-ghost use Rattle.explain.specs.Answers.{foundAs, ifHas, orFound};
+ghost use Rattle.explain.specs.Answers.{foundAs, hasAll, firstHas};
 ghost use Rattle.explain.specs.Search.{below, source, triedAt};
 use crate::Found;
 use crate::Goal;
@@ -11,26 +11,26 @@ use crate::ways;
 use model::Next;
 use table::Size;
 
-// The cause, if all that it needs has rank at most k. What is not needed has rank 0.
-fn if_lower<'a>(heads: &'a [u16], triples: &'a [u16], size: Size, k: u16, w: Found) -> Found
-    ensures { λ d. ⌜ d ≡ ifHas (below (size .symbols) (size .states) (now (heads .entry)) (now (triples .entry)) (suc k)) w ⌝ }
+// There is a cause, and all that it needs has rank at most k. What is not needed has rank 0.
+fn is_lower<'a>(heads: &'a [u16], triples: &'a [u16], size: Size, k: u16, w: Found) -> bool
+    ensures { λ b. ⌜ b ≡ hasAll (below (size .symbols) (size .states) (now (heads .entry)) (now (triples .entry)) (suc k)) w ⌝ }
 {
     let Found::By(c) = w else {
-        return Found::Nowhere;
+        return false;
     };
     let before = c.before;
     if rank_of(heads, triples, size, before) > k {
-        return Found::Nowhere;
+        return false;
     }
     let first = c.first;
     if rank_of(heads, triples, size, first) > k {
-        return Found::Nowhere;
+        return false;
     }
     let second = c.second;
     if rank_of(heads, triples, size, second) > k {
-        return Found::Nowhere;
+        return false;
     }
-    Found::By(c)
+    true
 }
 
 // The first of two causes whose needed facts all have rank at most k.
@@ -42,13 +42,15 @@ fn first_lower<'a>(
     first: Found,
     second: Found,
 ) -> Found
-    ensures { λ d. ⌜ d ≡ orFound (ifHas (below (size .symbols) (size .states) (now (heads .entry)) (now (triples .entry)) (suc k)) first) (ifHas (below (size .symbols) (size .states) (now (heads .entry)) (now (triples .entry)) (suc k)) second) ⌝ }
+    ensures { λ d. ⌜ d ≡ firstHas (below (size .symbols) (size .states) (now (heads .entry)) (now (triples .entry)) (suc k)) first second ⌝ }
 {
-    let w = if_lower(heads, triples, size, k, first);
-    match w {
-        Found::By(c) => Found::By(c),
-        Found::Nowhere => if_lower(heads, triples, size, k, second),
+    if is_lower(heads, triples, size, k, first) {
+        return first;
     }
+    if is_lower(heads, triples, size, k, second) {
+        return second;
+    }
+    Found::Nowhere
 }
 
 // The state that the step starts from, where x is the one free state: for a triple its own.

@@ -1,11 +1,11 @@
--- `explain::why::if_lower` meets its contract. Assumes nothing.
+-- `explain::why::is_lower` meets its contract. Assumes nothing.
 use borrow.Author.Needs.{needs}
 use Prim.Native.Nat.{suc}
 use Rattle.table.specs.Cells.{view}
 use Rattle.explain.specs.Search.{lower}
 use Rattle.explain.proofs.Tried.{low, high, lacks-before, lacks-first, lacks-second, has-all}
-use Rattle.explain.proofs.why.if_lower.Statement.{statement}
-use Rattle.explain.proofs.why.if_lower.Tie as tie
+use Rattle.explain.proofs.why.is_lower.Statement.{statement}
+use Rattle.explain.proofs.why.is_lower.Tie as tie
 
 enum-known-w : tie.Need-enum-known-w
 enum-known-w c = c .match .keys1
@@ -53,8 +53,8 @@ returns-5 c =
     let t = view (a .size .symbols) (a .size .states) (a .heads .now) (a .triples .now) in
     rw (c .before .before .before .before .before .before .before .w .given .1) (has-all (lower t (suc (a .k))) w (low t (a .k) (w .before) (c .before .before .before .before .before .rank-of .ensures) (c .before .before .before .before .if1 .left)) (low t (a .k) (w .first) (c .before .before .before .rank-of2 .ensures) (c .before .before .if2 .left)) (low t (a .k) (w .second) (c .before .rank-of3 .ensures) (c .if3 .left)))
 
-pub if-lower-spec : {M : Type 1} → statement M
-if-lower-spec =
+pub is-lower-spec : {M : Type 1} → statement M
+is-lower-spec =
     tie.close
     (tie.spec
     enum-known-w
