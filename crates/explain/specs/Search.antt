@@ -33,6 +33,7 @@ gives (Triple q g e) w = same (w .gives) (triple q g e)
 abbrev pub explains : (Fact → Bool) → Goal → Way → Bool
 explains h f w = gives f w && all h (needs w)
 
+-- the first of some ways that gives it
 abbrev pub givenBy : Goal → List Way → Option Way
 givenBy f = find (gives f)
 
@@ -42,7 +43,7 @@ source Nothing x = x
 source (Head q g) x = x
 source (Triple q g e) x = q
 
--- the ways of the step s to the state y that may give the fact: entering before returning
+-- of the ways of the step s to the state y that may give the fact the one that comes first: a head is entered
 abbrev pub sooner : Goal → Step → (x y : ℕ) → Rule → List Way
 sooner Nothing s x y ρ = []
 sooner (Head q g) s x y (exit a) = []
@@ -52,6 +53,7 @@ sooner (Triple q g e) s x y (exit a) = leaves s q a y ∷ []
 sooner (Triple q g e) s x y (direct a g1) = backs s q a y g1 e ∷ []
 sooner (Triple q g e) s x y (call a g1 g2) = meets s q a y g1 g2 x e ∷ []
 
+-- and the one that comes after it: a head is returned to
 abbrev pub later : Goal → Step → (x y : ℕ) → Rule → List Way
 later Nothing s x y ρ = []
 later (Head q g) s x y (exit a) = []
@@ -59,6 +61,7 @@ later (Head q g) s x y (direct a g1) = []
 later (Head q g) s x y (call a g1 g2) = returns s x a y g1 g2 q ∷ []
 later (Triple q g e) s x y ρ = []
 
+-- entering before returning
 abbrev pub chances : Goal → Step → (x y : ℕ) → Rule → List Way
 chances f s x y ρ = sooner f s x y ρ ++ later f s x y ρ
 
