@@ -1,24 +1,26 @@
 -- The trace goes by falling ranks: a fact of rank n + 1 by facts of rank at most n, each unfolded by its own rank. Assumes nothing.
 use mathlib.Core.Bool.{Bool, true, false, cond, _||_}
-use mathlib.Core.List.{List, [], _∷_, _++_}
+use mathlib.Core.List.{List, _∷_, _++_}
 use mathlib.Core.Path.{_≡_, refl, ap₂}
 use Prim.Native.Nat.{ℕ, suc, _≤_}
 use native.Mathlib.Omega.{arith}
 use native.Mathlib.Decide.{le-ind}
 use lib.Dec.{T}
-use Rattle.product.specs.Lists.{over, any, All}
+use Rattle.product.specs.Lists.{any, All}
 use Rattle.product.specs.Product.{Product, Step}
-use Rattle.product.specs.Facts.{Fact, needs, same, first, ways}
+use Rattle.product.specs.Facts.{Fact, Way, needs, same, first, ways}
 use Rattle.product.specs.Rounds.{works, grown, held, Rank}
 use Rattle.product.specs.Table.{ranks}
-use Rattle.product.specs.Trace.{explanation, alongFound, trace}
-use Rattle.product.proofs.Lists.{find-of, All-map, All-left, All-right, T-true}
+use Rattle.product.specs.Trace.{explanation, along, alongFound, trace}
+use Rattle.product.proofs.Lists.{find-of, All-map, All-left, All-right, T-true, over-same}
 use Rattle.product.proofs.Rounds.{In, of-works, grown-up}
 use Rattle.product.proofs.Ranks.{ranks-rank}
 
-over-same : (s t : Fact → List Step) (fs : List Fact) → All (λ f. s f ≡ t f) fs → over fs s ≡ over fs t
-over-same s t [] h = refl
-over-same s t (f ∷ fs) (e, h) = ap₂ _++_ e (over-same s t fs h)
+-- the steps along a way, by the runs of what it needs
+pub along-same : (s t : Fact → List Step) (w : Way) → All (λ d. s d ≡ t d) (needs w) → along s w ≡ along t w
+along-same s t w h = ap₂ (λ b a. b ++ w .by ∷ a)
+    (over-same s t (w .before) (All-left (λ d. s d ≡ t d) (w .before) (w .after) h))
+    (over-same s t (w .after) (All-right (λ d. s d ≡ t d) (w .before) (w .after) h))
 
 module _ (p : Product) where
   -- later rounds leave the trace as it is
@@ -45,6 +47,4 @@ module _ (p : Product) where
           let (w, i, x, y) = find-of (works (held p n) f) (ways p) u in
           let (_, k) = of-works (held p n) f w x in
           let h : All (λ d. trace p n d ≡ unfolded n d) (needs w) = All-map (In (held p n)) (λ d. trace p n d ≡ unfolded n d) lower (needs w) k in
-          rw y (ap₂ (λ b a. b ++ w .by ∷ a)
-          (over-same (trace p n) (unfolded n) (w .before) (All-left (λ d. trace p n d ≡ unfolded n d) (w .before) (w .after) h))
-          (over-same (trace p n) (unfolded n) (w .after) (All-right (λ d. trace p n d ≡ unfolded n d) (w .before) (w .after) h)))
+          rw y (along-same (trace p n) (unfolded n) w h)

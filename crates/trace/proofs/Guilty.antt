@@ -6,10 +6,10 @@ use Prim.Native.Nat.{ℕ}
 use native.Mathlib.Omega.{arith}
 use lib.Dec.{eqb}
 use Rattle.product.specs.Facts.{Fact, head, triple}
-use Rattle.trace.specs.declared.Goal.{Goal}
-use Rattle.trace.specs.declared.Goal.the-variants.{Nothing}
-use Rattle.trace.specs.First.{orElse}
-use Rattle.trace.specs.Answers.{goalOf}
+use Rattle.explain.specs.declared.Goal.{Goal}
+use Rattle.explain.specs.declared.Goal.the-variants.{Nothing}
+use Rattle.explain.specs.First.{orElse}
+use Rattle.explain.specs.Answers.{goalOf}
 use Rattle.trace.specs.Culprit.{goalAs, onlyIf}
 
 pub not-final : {b final : Bool} (x : Bool) → b ≡ final → b ≡ false → false ≡ (final && x)

@@ -19,9 +19,9 @@ use Rattle.model.specs.Model.{productOf}
 use Rattle.model.specs.Valid.{valid}
 use Rattle.model.proofs.Valid.{product-in}
 use Rattle.table.specs.Cells.{view}
-use Rattle.trace.specs.Search.{lower, whyIn}
+use Rattle.explain.specs.Search.{lower, whyIn}
 use Rattle.trace.specs.Unfold.{Explains}
-use Rattle.trace.proofs.Explained.{StatesIn, searched-ways}
+use Rattle.explain.proofs.Explained.{StatesIn, searched-ways}
 
 pub ranks-lower : (p : Product) (n k : ℕ) → k < n → n < absent → lower (ranks p n) (suc k) ≡ held p k
 ranks-lower p n k l s = fun-ext λ d. same-truth (ltb (ranks p n d) (suc k)) (held p k d) (λ t. down d (held p n d) refl (ltb→lt (ranks p n d) (suc k) t)) (up d)

@@ -14,9 +14,9 @@ use Rattle.product.proofs.Ranks.{present-held}
 use Rattle.model.specs.declared.Model.{Model}
 use Rattle.model.specs.Model.{productOf}
 use Rattle.table.specs.Cells.{view}
-use Rattle.trace.specs.First.{orElse}
+use Rattle.explain.specs.First.{orElse}
 use Rattle.trace.specs.Culprit.{headOf, someHead, tripleAt, someTriple, culpritIn}
-use Rattle.trace.proofs.First.{first-same, first-only, first-idle, find-append, find-over, find-fails}
+use Rattle.explain.proofs.First.{first-same, first-only, first-idle, find-append, find-over, find-fails}
 
 module _ (m : Model) (hs ts : List ℕ) where
   abbrev P : Fact → Bool

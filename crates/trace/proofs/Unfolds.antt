@@ -15,19 +15,20 @@ use Rattle.product.specs.Trace.{explanation, along, alongFound, trace}
 use Rattle.product.proofs.Lists.{All-left, All-right, All-map, All-at, over-append}
 use Rattle.product.proofs.Rounds.{In, of-works, grown-up}
 use Rattle.product.proofs.Ranks.{ranks-rank}
-use Rattle.product.proofs.Falling.{unfolded, trace-later, trace-falls}
+use Rattle.product.proofs.Falling.{along-same, unfolded, trace-later, trace-falls}
 use Rattle.product.proofs.Ways.{EachWay, steps-ways}
-use Rattle.trace.specs.declared.Goal.{Goal}
-use Rattle.trace.specs.declared.Goal.the-variants.{Head, Triple, Nothing}
-use Rattle.trace.specs.declared.Cause.{Cause}
-use Rattle.trace.specs.declared.Found.{Found}
-use Rattle.trace.specs.declared.Found.the-variants.{By, Nowhere}
-use Rattle.trace.specs.Answers.{goalOf, firstIn, secondIn, causeOf, foundAs, rankOf}
+use Rattle.explain.specs.declared.Goal.{Goal}
+use Rattle.explain.specs.declared.Goal.the-variants.{Head, Triple, Nothing}
+use Rattle.explain.specs.declared.Cause.{Cause}
+use Rattle.explain.specs.declared.Found.{Found}
+use Rattle.explain.specs.declared.Found.the-variants.{By, Nowhere}
+use Rattle.explain.specs.Search.{byRank}
+use Rattle.explain.specs.Answers.{goalOf, firstIn, secondIn, causeOf, foundAs, rankOf}
 use Rattle.trace.specs.Unfold.{Wrote, Explains, HeldFor, stepsFor, Unfolded}
-use Rattle.trace.proofs.First.{find-elim}
-use Rattle.trace.proofs.Tried.{found-none, found-some}
+use Rattle.explain.proofs.First.{find-elim}
+use Rattle.explain.proofs.Tried.{found-none, found-some}
 use Rattle.trace.proofs.Wrote.{wrote-none, wrote-cut, wrote-then}
-use Rattle.trace.proofs.Falls.{first-of, second-of, same-cause}
+use Rattle.explain.proofs.Falls.{first-of, second-of, same-cause}
 
 -- a way needs at most one head and two triples
 abbrev Short : Way → Type 0
@@ -59,10 +60,6 @@ module _ (t : Fact → List Step) where
       → along t w ≡ stepsFor t (firstIn (w .before)) ++ w .by ∷ (stepsFor t (firstIn (w .after)) ++ stepsFor t (secondIn (w .after)))
   along-short w (i, j) = ap₂ (λ b a. b ++ w .by ∷ a) (over-one (w .before) i) (over-two (w .after) j)
 
-over-same : (s t : Fact → List Step) (fs : List Fact) → All (λ f. s f ≡ t f) fs → over fs s ≡ over fs t
-over-same s t [] h = refl
-over-same s t (f ∷ fs) (e, h) = ap₂ _++_ e (over-same s t fs h)
-
 module _ (p : Product) (n : ℕ) where
   up : (k : ℕ) → k ≤ n → (f : Fact) → T (held p k f) → T (held p n f)
   up k l f = grown-up p (same (first p)) k n f l
@@ -80,9 +77,7 @@ module _ (p : Product) (n : ℕ) where
           let (_, u) = find-elim (works (held p k) f) (ways p) w e in
           let (_, h) = of-works (held p k) f w u in
           let s : All (λ d. unfolded p k d ≡ trace p n d) (needs w) = All-map (In (held p k)) (λ d. unfolded p k d ≡ trace p n d) lower (needs w) h in
-          ap₂ (λ b a. b ++ w .by ∷ a)
-          (over-same (unfolded p k) (trace p n) (w .before) (All-left (λ d. unfolded p k d ≡ trace p n d) (w .before) (w .after) s))
-          (over-same (unfolded p k) (trace p n) (w .after) (All-right (λ d. unfolded p k d ≡ trace p n d) (w .before) (w .after) s))
+          along-same (unfolded p k) (trace p n) w s
 
 -- the steps of a fact, by a cause that was found
 abbrev pub numbers : Product → ℕ → Goal → List ℕ
@@ -145,50 +140,43 @@ module _ (p : Product) (n : ℕ) (t : Table) (why : ℕ → Goal → Option Way)
         subst⁻¹ (Runs p n (goalOf f)) (same-cause by) (some-runs w e)
 
   -- the same of a fact that is asked for, if one is
-  pub start-numbers : (f : Goal) → HeldFor p n f → rankOf t f ≡ 0 → numbers p n f ≡ []
+  start-numbers : (f : Goal) → HeldFor p n f → rankOf t f ≡ 0 → numbers p n f ≡ []
   start-numbers Nothing h z = refl
   start-numbers (Head q g) h z = ap (λ ss. each ss stored) (start-steps (head q g) h z)
   start-numbers (Triple q g e) h z = ap (λ ss. each ss stored) (start-steps (triple q g e) h z)
 
-  pub none-numbers : (f : Goal) → HeldFor p n f → (k : ℕ) → k ≡ rankOf t f → (k ≡ 0 → ⊥) → {d : Found} → d ≡ foundAs (why k f) → d ≡ Nowhere → numbers p n f ≡ []
-  none-numbers f h zero is pos read told = absurd (pos refl)
-  none-numbers Nothing h (suc k) is pos read told = refl
-  none-numbers (Head q g) h (suc k) is pos read told = ap (λ ss. each ss stored) (none-steps (head q g) h k is (found-none (why (suc k) (Head q g)) read told))
-  none-numbers (Triple q g e) h (suc k) is pos read told = ap (λ ss. each ss stored) (none-steps (triple q g e) h k is (found-none (why (suc k) (Triple q g e)) read told))
+  pub none-numbers : (f : Goal) → HeldFor p n f → (k : ℕ) → k ≡ rankOf t f → {d : Found} → d ≡ foundAs (byRank why f k) → d ≡ Nowhere → numbers p n f ≡ []
+  none-numbers f h zero is read told = start-numbers f h (sym is)
+  none-numbers Nothing h (suc k) is read told = refl
+  none-numbers (Head q g) h (suc k) is read told = ap (λ ss. each ss stored) (none-steps (head q g) h k is (found-none (why (suc k) (Head q g)) read told))
+  none-numbers (Triple q g e) h (suc k) is read told = ap (λ ss. each ss stored) (none-steps (triple q g e) h k is (found-none (why (suc k) (Triple q g e)) read told))
 
-  pub found-runs : (f : Goal) → HeldFor p n f → (k : ℕ) → k ≡ rankOf t f → (k ≡ 0 → ⊥) → {d : Found} → d ≡ foundAs (why k f) → {c : Cause} → d ≡ By c → Runs p n f c
-  found-runs f h zero is pos read told = absurd (pos refl)
-  found-runs Nothing h (suc k) is pos read told = absurd (pos is)
-  found-runs (Head q g) h (suc k) is pos read told = cause-runs (head q g) h k is read told
-  found-runs (Triple q g e) h (suc k) is pos read told = cause-runs (triple q g e) h k is read told
+  pub found-runs : (f : Goal) → HeldFor p n f → (k : ℕ) → k ≡ rankOf t f → {d : Found} → d ≡ foundAs (byRank why f k) → {c : Cause} → d ≡ By c → Runs p n f c
+  found-runs f h zero is read told = let z : _≡_ {A = ℕ} 0 1 = cc in absurd (omega arith)
+  found-runs Nothing h (suc k) is read told = absurd (omega (arith, is))
+  found-runs (Head q g) h (suc k) is read told = cause-runs (head q g) h k is read told
+  found-runs (Triple q g e) h (suc k) is read told = cause-runs (triple q g e) h k is read told
 
 -- what a call writes, by the way that it takes
 module _ (t : Table) (why : ℕ → Goal → Option Way) (f : Goal) {room : List ℕ} {at : ℕ} where
   pub unfolded-cut : length room < at → at ≤ length room + 1 → Unfolded t why f room at at room
   unfolded-cut l i = record { within = i; steps = λ p n E h. wrote-cut (numbers p n f) l i }
 
-  module _ (i : at ≤ length room + 1) {k : ℕ} (is : k ≡ rankOf t f) where
-    pub unfolded-start : k ≡ 0 → Unfolded t why f room at at room
-    unfolded-start z = record {
+  module _ (i : at ≤ length room + 1) {d : Found} (read : d ≡ foundAs (byRank why f (rankOf t f))) where
+    pub unfolded-none : d ≡ Nowhere → Unfolded t why f room at at room
+    unfolded-none told = record {
       within = i;
-      steps = λ p n E h. subst⁻¹ (λ l. Wrote room at l at room) (start-numbers p n t why E f h (sym is ∙ z)) (wrote-none i);
+      steps = λ p n E h. subst⁻¹ (λ l. Wrote room at l at room) (none-numbers p n t why E f h (rankOf t f) refl read told) (wrote-none i);
     }
 
-    module _ (pos : k ≡ 0 → ⊥) {d : Found} (read : d ≡ foundAs (why k f)) where
-      pub unfolded-none : d ≡ Nowhere → Unfolded t why f room at at room
-      unfolded-none told = record {
-        within = i;
-        steps = λ p n E h. subst⁻¹ (λ l. Wrote room at l at room) (none-numbers p n t why E f h k is pos read told) (wrote-none i);
-      }
-
-      pub unfolded-by : {c : Cause} → d ≡ By c → {r1 r2 r3 r4 : ℕ} {room1 room2 room3 room4 : List ℕ}
-          → Unfolded t why (c .before) room at r1 room1 → Wrote room1 r1 ((c .rule * 128 + c .by) ∷ []) r2 room2
-          → Unfolded t why (c .first) room2 r2 r3 room3 → Unfolded t why (c .second) room3 r3 r4 room4
-          → r4 ≤ length room + 1 → Unfolded t why f room at r4 room4
-      unfolded-by {c} told {r4 = r4} {room4 = room4} u w v x last = record {
-        within = last;
-        steps = λ p n E h.
-            let R : Runs p n f c = found-runs p n t why E f h k is pos read told in
-            subst⁻¹ (λ l. Wrote room at l r4 room4) (R .runs)
-            (wrote-then (u .steps p n E (R .before-held)) (wrote-then w (wrote-then (v .steps p n E (R .first-held)) (x .steps p n E (R .second-held)))));
-      }
+    pub unfolded-by : {c : Cause} → d ≡ By c → {r1 r2 r3 r4 : ℕ} {room1 room2 room3 room4 : List ℕ}
+        → Unfolded t why (c .before) room at r1 room1 → Wrote room1 r1 ((c .rule * 128 + c .by) ∷ []) r2 room2
+        → Unfolded t why (c .first) room2 r2 r3 room3 → Unfolded t why (c .second) room3 r3 r4 room4
+        → r4 ≤ length room + 1 → Unfolded t why f room at r4 room4
+    unfolded-by {c} told {r4 = r4} {room4 = room4} u w v x last = record {
+      within = last;
+      steps = λ p n E h.
+          let R : Runs p n f c = found-runs p n t why E f h (rankOf t f) refl read told in
+          subst⁻¹ (λ l. Wrote room at l r4 room4) (R .runs)
+          (wrote-then (u .steps p n E (R .before-held)) (wrote-then w (wrote-then (v .steps p n E (R .first-held)) (x .steps p n E (R .second-held)))));
+    }

@@ -19,14 +19,14 @@ use Rattle.model.specs.declared.Model.{Model}
 use Rattle.model.specs.Model.{productOf}
 use Rattle.model.proofs.Bounds.{start-state-in, start-symbol-in}
 use Rattle.table.specs.Cells.{view}
-use Rattle.trace.specs.declared.Goal.{Goal}
+use Rattle.explain.specs.declared.Goal.{Goal}
 use Rattle.trace.specs.declared.Traced.the-variants.{Found, Cut}
-use Rattle.trace.specs.Answers.{goalOf}
-use Rattle.trace.specs.Search.{whyIn}
+use Rattle.explain.specs.Answers.{goalOf}
+use Rattle.explain.specs.Search.{whyIn}
 use Rattle.trace.specs.Culprit.{goalAs, culpritIn}
 use Rattle.trace.specs.Unfold.{Wrote, HeldFor, stepsFor, Unfolded}
 use Rattle.trace.specs.Written.{Ranked, violationSteps, Written}
-use Rattle.trace.proofs.First.{find-elim}
+use Rattle.explain.proofs.First.{find-elim}
 use Rattle.trace.proofs.Taken.{culprit-found}
 use Rattle.trace.proofs.Ranked.{explains-ranked}
 

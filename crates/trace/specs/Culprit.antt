@@ -9,10 +9,10 @@ use Rattle.product.specs.Lists.{find}
 use Rattle.product.specs.Facts.{Fact, head, triple}
 use Rattle.product.specs.Table.{present, absent}
 use Rattle.table.specs.Cells.{headIn, tripleIn}
-use Rattle.trace.specs.declared.Goal.{Goal}
-use Rattle.trace.specs.declared.Goal.the-variants.{Nothing}
-use Rattle.trace.specs.First.{orElse, firstOf}
-use Rattle.trace.specs.Answers.{goalOf}
+use Rattle.explain.specs.declared.Goal.{Goal}
+use Rattle.explain.specs.declared.Goal.the-variants.{Nothing}
+use Rattle.explain.specs.First.{orElse, firstOf}
+use Rattle.explain.specs.Answers.{goalOf}
 
 abbrev pub goalAs : Option Fact → Goal
 goalAs none = Nothing

@@ -3,7 +3,7 @@ ghost use mathlib.Core.Bool.{false};
 ghost use mathlib.Core.Path.{_≡_};
 ghost use lib.ListN.{getD};
 ghost use Rattle.trace.specs.Culprit.{goalAs, guiltyHead, guiltyTriple, someHead, someTriple, culpritIn};
-use crate::Goal;
+use explain::Goal;
 use table::Size;
 
 fn is_final(finals: &[bool], q: usize) -> bool

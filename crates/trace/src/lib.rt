@@ -1,37 +1,18 @@
 // The trace: the explanation of a fact, found in the two arrays of ranks, and unfolded to the steps of a run.
-ghost use Rattle.trace.specs.Outcome.{Outcome};
+ghost use mathlib.Core.List.{[], _∷_};
+ghost use Prim.Native.Nat.{_+_, _*_, _<_};
+ghost use lib.ListN.{length};
+ghost use Rattle.table.specs.Cells.{view};
+ghost use Rattle.explain.specs.Search.{whyIn};
+ghost use Rattle.trace.specs.Unfold.{Wrote, Storable, Unfolded};
 ghost use Rattle.trace.specs.Written.{Ranked, Written};
+ghost use Rattle.trace.specs.Outcome.{Outcome};
 use decide::Decision;
+use explain::Counts;
+use explain::Found;
+use explain::Goal;
 use model::Model;
 use table::Size;
-
-// How many symbols, states, rules and moves a model has.
-struct Counts {
-    size: Size,
-    rules: usize,
-    moves: usize,
-}
-
-// A fact whose run is asked for: a head, a triple; or none is needed.
-enum Goal {
-    Nothing,
-    Head(usize, usize),
-    Triple(usize, usize, usize),
-}
-
-// An explanation: its rule and move, the head before the step, and the triples that are run after it.
-struct Cause {
-    rule: usize,
-    by: usize,
-    before: Goal,
-    first: Goal,
-    second: Goal,
-}
-
-enum Found {
-    By(Cause),
-    Nowhere,
-}
 
 // The answer of the call: the trace was found, with its rounds and steps; or a refusal, whose number specs/Outcome.antt says.
 pub enum Traced {
@@ -44,8 +25,52 @@ pub enum Traced {
 }
 
 mod culprit; // the violating fact that is taken
-mod steps; // an explanation unfolded to steps
-mod why; // the search for an explanation
+
+// Writes a step, if there is room, and gives the next place: one past the end of the room where it was cut.
+fn put(room: &mut [u16], at: usize, rule: usize, by: usize) -> usize
+    requires { ⌜ (rule < 256) × (by < 128) ⌝ }
+    ensures { λ r. ⌜ Wrote (now (room .entry)) at ((rule * 128 + by) ∷ []) r (now (room .exit)) ⌝ }
+{
+    if room.len() <= at {
+        return room.len() + 1;
+    }
+    room[at] = (rule * 128 + by) as u16;
+    at + 1
+}
+
+// Writes the steps of a fact from the place `at` on, and gives the place after them. Where it is cut already it ends at once: an unfolding can be
+// exponential in the rank.
+fn unfold_fact<'a>(
+    room: &mut [u16],
+    rules: &'a [u8; 1024],
+    moves: &'a [u8; 384],
+    shows: &'a [bool; 512],
+    heads: &'a [u16],
+    triples: &'a [u16],
+    n: Counts,
+    f: Goal,
+    at: usize,
+) -> usize
+    requires { ⌜ Storable (n .rules) (n .moves) at (length (now room)) ⌝ }
+    ensures { λ r. ⌜ Unfolded (view (n .size .symbols) (n .size .states) (now (heads .entry)) (now (triples .entry))) (whyIn (now (rules .entry)) (now (moves .entry)) (now (shows .entry)) (n .size .symbols) (n .size .states) (now (heads .entry)) (now (triples .entry)) (n .rules) (n .moves)) f (now (room .entry)) at r (now (room .exit)) ⌝ }
+{
+    if room.len() < at {
+        return at;
+    }
+    let w = explain::explain(rules, moves, shows, heads, triples, n, f);
+    match w {
+        Found::Nowhere => at,
+        Found::By(c) => {
+            let before = c.before;
+            let first = c.first;
+            let second = c.second;
+            let here = unfold_fact(room, rules, moves, shows, heads, triples, n, before, at);
+            let next = put(room, here, c.rule, c.by);
+            let then = unfold_fact(room, rules, moves, shows, heads, triples, n, first, next);
+            unfold_fact(room, rules, moves, shows, heads, triples, n, second, then)
+        }
+    }
+}
 
 // The trace of a violation after n rounds, into the room.
 fn write_trace<'a>(
@@ -70,7 +95,7 @@ fn write_trace<'a>(
         rules: m.rules,
         moves: m.moves,
     };
-    let at = steps::unfold_fact(
+    let at = unfold_fact(
         room,
         &m.rulerows,
         &m.moverows,

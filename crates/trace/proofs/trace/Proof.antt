@@ -6,10 +6,10 @@ use Rattle.trace.proofs.trace.Statement.{statement}
 use Rattle.trace.proofs.trace.Tie as tie
 
 decide-requires : tie.Need-decide-requires
-decide-requires c κs = search needs
+decide-requires c κs = tt
 
 enum-known-d : tie.Need-enum-known-d
-enum-known-d c = search needs
+enum-known-d c = c .match .keys1
 
 write-trace-requires : tie.Need-write-trace-requires
 write-trace-requires c κs =
@@ -17,16 +17,16 @@ write-trace-requires c κs =
     ranked (a .m) (a .budget) (a .heads .now) (a .triples .now) _ _ (c .before .before .before .before .before .before .before .before .before .before .decide .ensures) _ (c .before .before .before .before .d .given .1)
 
 enum-known-d-2 : tie.Need-enum-known-d-2
-enum-known-d-2 c = search needs
+enum-known-d-2 c = c .match .keys2
 
 enum-told : tie.Need-enum-told
-enum-told c = search needs
+enum-told c = c .match .keys3
 
 enum-told-2 : tie.Need-enum-told-2
-enum-told-2 c = search needs
+enum-told-2 c = c .match .keys4
 
 enum-known-d-3 : tie.Need-enum-known-d-3
-enum-known-d-3 c = search needs
+enum-known-d-3 c = c .match .keys5
 
 same-length : tie.Need-same-length
 same-length c = search needs

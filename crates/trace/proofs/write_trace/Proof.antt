@@ -13,7 +13,7 @@ cast-g : tie.Need-cast-g
 cast-g c = search needs
 
 culprit-requires : tie.Need-culprit-requires
-culprit-requires c κs = search needs
+culprit-requires c κs = tt
 
 unfold-fact-requires : tie.Need-unfold-fact-requires
 unfold-fact-requires c κs =

@@ -1,5 +1,4 @@
 -- `trace::culprit::culprit` meets its contract. Assumes nothing.
-use borrow.Author.Needs.{needs}
 use Rattle.product.specs.Facts.{head, triple}
 use Rattle.trace.specs.Culprit.{someHead, someTriple}
 use Rattle.trace.proofs.Guilty.{goal-first, goal-second}
@@ -7,19 +6,19 @@ use Rattle.trace.proofs.culprit.culprit.Statement.{statement}
 use Rattle.trace.proofs.culprit.culprit.Tie as tie
 
 some-head-requires : tie.Need-some-head-requires
-some-head-requires c κs = search needs
+some-head-requires c κs = tt
 
 enum-told : tie.Need-enum-told
-enum-told c = search needs
+enum-told c = c .match .keys1
 
 some-triple-requires : tie.Need-some-triple-requires
-some-triple-requires c κs = search needs
+some-triple-requires c κs = tt
 
 enum-known-f : tie.Need-enum-known-f
-enum-known-f c = search needs
+enum-known-f c = c .match .keys2
 
 enum-known-f-2 : tie.Need-enum-known-f-2
-enum-known-f-2 c = search needs
+enum-known-f-2 c = c .match .keys3
 
 returns : tie.Need-returns
 returns c =

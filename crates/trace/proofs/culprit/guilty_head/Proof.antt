@@ -1,18 +1,17 @@
 -- `trace::culprit::guilty_head` meets its contract. Assumes nothing.
-use borrow.Author.Needs.{needs}
 use borrow.Author.Tests.{not-true, not-false}
 use Rattle.trace.proofs.Guilty.{not-final, is-final}
 use Rattle.trace.proofs.culprit.guilty_head.Statement.{statement}
 use Rattle.trace.proofs.culprit.guilty_head.Tie as tie
 
 is-final-requires : tie.Need-is-final-requires
-is-final-requires c κs = search needs
+is-final-requires c κs = tt
 
 returns : tie.Need-returns
 returns c = not-final _ (c .before .is-final .ensures) (not-true _ (c .if1 .taken))
 
 head-at-requires : tie.Need-head-at-requires
-head-at-requires c κs = search needs
+head-at-requires c κs = tt
 
 returns-2 : tie.Need-returns-2
 returns-2 c = is-final (c .before .before .is-final .ensures) (not-false _ (c .before .if1 .left)) (c .head-at .ensures)

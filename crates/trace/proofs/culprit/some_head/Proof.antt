@@ -4,9 +4,9 @@ use mathlib.Core.Option.{none}
 use mathlib.Core.Path.{_≡_, sym, ap}
 use Prim.Native.Nat.{_≤_, _-_}
 use Rattle.product.specs.Facts.{head}
-use Rattle.trace.specs.First.{firstOf}
+use Rattle.explain.specs.First.{firstOf}
 use Rattle.trace.specs.Culprit.{goalAs, headAt, headOf}
-use Rattle.trace.proofs.First.{first-none, first-more, first-here, first-done}
+use Rattle.explain.proofs.First.{first-none, first-more, first-here, first-done}
 use Rattle.trace.proofs.Guilty.{only-no, only-yes}
 use native.Mathlib.Omega.{arith}
 use Rattle.trace.proofs.culprit.some_head.Statement.{statement}
@@ -37,7 +37,7 @@ symbols-holds : tie.Need-symbols-holds Inv-symbols μ-symbols Inv-found μ-found
 symbols-holds c = (omega arith, first-none _)
 
 guilty-head-requires : tie.Need-guilty-head-requires Inv-symbols μ-symbols Inv-found μ-found
-guilty-head-requires c κs = search needs
+guilty-head-requires c κs = tt
 
 add-g : tie.Need-add-g Inv-symbols μ-symbols Inv-found μ-found
 add-g c = search needs

@@ -4,9 +4,9 @@ use mathlib.Core.Option.{none}
 use mathlib.Core.Path.{_≡_, sym, ap}
 use Prim.Native.Nat.{_≤_, _-_}
 use Rattle.product.specs.Facts.{triple}
-use Rattle.trace.specs.First.{firstOf}
+use Rattle.explain.specs.First.{firstOf}
 use Rattle.trace.specs.Culprit.{goalAs, tripleAt}
-use Rattle.trace.proofs.First.{first-none, first-more, first-here, first-done}
+use Rattle.explain.proofs.First.{first-none, first-more, first-here, first-done}
 use Rattle.trace.proofs.Guilty.{only-no, only-yes}
 use native.Mathlib.Omega.{arith}
 use Rattle.trace.proofs.culprit.some_triple.Statement.{statement}
@@ -25,7 +25,7 @@ states-holds : tie.Need-states-holds Inv-states μ-states
 states-holds c = (omega arith, first-none _)
 
 guilty-triple-requires : tie.Need-guilty-triple-requires Inv-states μ-states
-guilty-triple-requires c κs = search needs
+guilty-triple-requires c κs = tt
 
 returns : tie.Need-returns Inv-states μ-states
 returns c =

@@ -1,0 +1,5 @@
+pub mod First
+pub mod Given
+pub mod Tried
+pub mod Explained
+pub mod Falls

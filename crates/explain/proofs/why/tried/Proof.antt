@@ -1,0 +1,63 @@
+-- `explain::why::tried` meets its contract. Assumes nothing.
+use Prim.Native.Nat.{suc}
+use Rattle.explain.specs.Search.{below}
+use Rattle.explain.proofs.Tried.{tried-stuck, tried-to}
+use Rattle.explain.proofs.why.tried.Statement.{statement}
+use Rattle.explain.proofs.why.tried.Tie as tie
+use Rattle.explain.proofs.why.tried.Reads as reads
+use Rattle.explain.proofs.why.tried.Lts as lts
+use Rattle.explain.proofs.ways.first.Reads as first-reads
+use Rattle.explain.proofs.ways.second.Reads as second-reads
+use Rattle.explain.proofs.why.first_lower.Reads as first-lower-reads
+use Rattle.explain.proofs.why.source.Reads as source-reads
+use Rattle.model.proofs.next_state.Reads as next-state-reads
+use Rattle.model.proofs.rule_at.Reads as rule-at-reads
+
+source-requires : tie.Need-source-requires
+source-requires c κs = tt
+
+next-state-requires : tie.Need-next-state-requires
+next-state-requires c κs = tt
+
+enum-told : tie.Need-enum-told
+enum-told c = c .match .keys1
+
+enum-known-next : tie.Need-enum-known-next
+enum-known-next c = c .match .keys2
+
+rule-at-requires : tie.Need-rule-at-requires
+rule-at-requires c κs = tt
+
+first-requires : tie.Need-first-requires
+first-requires c κs = tt
+
+second-requires : tie.Need-second-requires
+second-requires c κs = tt
+
+first-lower-requires : tie.Need-first-lower-requires
+first-lower-requires c κs = tt
+
+returns : tie.Need-returns
+returns c =
+    let a = c .before .before .before .before .before .before .args in
+    tried-stuck (a .rules .now) (a .moves .now) (a .shows .now) (below (a .size .symbols) (a .size .states) (a .heads .now) (a .triples .now) (suc (a .k))) (a .f) (a .r) (a .v) (a .x) (c .before .before .before .source .ensures) (c .before .before .next-state .ensures) (c .enum-told .given .1)
+
+returns-2 : tie.Need-returns-2
+returns-2 c =
+    let a = c .before .before .before .before .before .before .before .before .before .before .before .args in
+    tried-to (a .rules .now) (a .moves .now) (a .shows .now) (below (a .size .symbols) (a .size .states) (a .heads .now) (a .triples .now) (suc (a .k))) (a .f) (a .r) (a .v) (a .x) (c .before .before .before .before .before .before .before .before .source .ensures) (c .before .before .before .before .before .before .before .next-state .ensures) (c .before .before .before .before .before .next .given .1) (c .before .before .before .rule-at .ensures) (c .before .before .first .ensures) (c .before .second .ensures) (c .first-lower .ensures)
+
+pub tried-spec : {M : Type 1} → statement M
+tried-spec =
+    tie.close
+    (tie.spec
+    source-requires
+    next-state-requires
+    enum-told
+    enum-known-next
+    rule-at-requires
+    first-requires
+    second-requires
+    first-lower-requires
+    returns
+    returns-2)

@@ -1,0 +1,59 @@
+-- The answers of the code as the theory has them: a fact that is asked for, and a way that was found. Assumes nothing.
+use mathlib.Core.Bool.{Bool, false, cond}
+use mathlib.Core.List.{List, [], _∷_, _++_}
+use mathlib.Core.Option.{Option, none, some}
+use Prim.Native.Nat.{ℕ}
+use Rattle.product.specs.Lists.{all}
+use Rattle.product.specs.Facts.{Fact, head, triple, Way}
+use Rattle.product.specs.Table.{Table}
+use Rattle.explain.specs.declared.Goal.{Goal}
+use Rattle.explain.specs.declared.Goal.the-variants.{Head, Triple, Nothing}
+use Rattle.explain.specs.declared.Cause.{Cause}
+use Rattle.explain.specs.declared.Found.{Found}
+use Rattle.explain.specs.declared.Found.the-variants.{By, Nowhere}
+
+abbrev pub goalOf : Fact → Goal
+goalOf (head q g) = Head q g
+goalOf (triple q g e) = Triple q g e
+
+-- the first and the second fact that a list has
+abbrev pub firstIn : List Fact → Goal
+firstIn [] = Nothing
+firstIn (f ∷ fs) = goalOf f
+
+abbrev pub secondIn : List Fact → Goal
+secondIn [] = Nothing
+secondIn (f ∷ fs) = firstIn fs
+
+abbrev pub causeBy : (rule by : ℕ) → (before first second : Goal) → Cause
+causeBy rule by before first second = record { rule = rule; by = by; before = before; first = first; second = second }
+
+abbrev pub causeOf : Way → Cause
+causeOf w = causeBy (w .by .by-rule) (w .by .by-move) (firstIn (w .before)) (firstIn (w .after)) (secondIn (w .after))
+
+abbrev pub foundAs : Option Way → Found
+foundAs none = Nowhere
+foundAs (some w) = By (causeOf w)
+
+-- the rank of the fact that is asked for; where none is, 0
+abbrev pub rankOf : Table → Goal → ℕ
+rankOf t Nothing = 0
+rankOf t (Head q g) = t (head q g)
+rankOf t (Triple q g e) = t (triple q g e)
+
+-- the facts that a cause needs; and the set h has them all
+abbrev pub factIn : Goal → List Fact
+factIn Nothing = []
+factIn (Head q g) = head q g ∷ []
+factIn (Triple q g e) = triple q g e ∷ []
+
+abbrev pub needsOf : Cause → List Fact
+needsOf c = factIn (c .before) ++ (factIn (c .first) ++ factIn (c .second))
+
+abbrev pub hasAll : (Fact → Bool) → Found → Bool
+hasAll h Nowhere = false
+hasAll h (By c) = all h (needsOf c)
+
+-- the first of two that the set has
+abbrev pub firstHas : (Fact → Bool) → Found → Found → Found
+firstHas h a b = cond (hasAll h a) a (cond (hasAll h b) b Nowhere)

@@ -1,0 +1,99 @@
+-- The search for an explanation: rule by rule, move by move, and state by state. Assumes nothing.
+use mathlib.Core.Bool.{Bool, false, _&&_}
+use mathlib.Core.List.{List, [], _∷_, _++_}
+use mathlib.Core.Option.{Option, none, some}
+use Prim.Native.Nat.{ℕ, zero, suc}
+use lib.Dec.{ltb}
+use Rattle.product.specs.Lists.{all, find}
+use Rattle.product.specs.Product.{Rule, exit, direct, call, Step}
+use Rattle.product.specs.Facts.{Fact, head, triple, Way, needs, same, leaves, enters, backs, returns, meets}
+use Rattle.product.specs.Table.{Table}
+use Rattle.model.specs.Model.{ruleAt, nextAt}
+use Rattle.table.specs.Cells.{view}
+use Rattle.explain.specs.declared.Goal.{Goal}
+use Rattle.explain.specs.declared.Goal.the-variants.{Head, Triple, Nothing}
+use Rattle.explain.specs.First.{firstOf}
+
+-- the facts of rank below k, in a table and in its two arrays
+abbrev pub lower : Table → ℕ → Fact → Bool
+lower t k d = ltb (t d) k
+
+abbrev pub below : (symbols states : ℕ) → (heads triples : List ℕ) → ℕ → Fact → Bool
+below symbols states heads triples k = lower (view symbols states heads triples) k
+
+abbrev pub stepOf : (r v : ℕ) → Step
+stepOf r v = record { by-rule = r; by-move = v }
+
+-- the way gives the fact that is asked for; and it does so out of facts of the set h
+abbrev pub gives : Goal → Way → Bool
+gives Nothing w = false
+gives (Head q g) w = same (w .gives) (head q g)
+gives (Triple q g e) w = same (w .gives) (triple q g e)
+
+abbrev pub explains : (Fact → Bool) → Goal → Way → Bool
+explains h f w = gives f w && all h (needs w)
+
+-- the first of some ways that gives it
+abbrev pub givenBy : Goal → List Way → Option Way
+givenBy f = find (gives f)
+
+-- The state that a step starts from, where x is the one free state: for a head the source of the step, for a triple the middle state.
+abbrev pub source : Goal → ℕ → ℕ
+source Nothing x = x
+source (Head q g) x = x
+source (Triple q g e) x = q
+
+-- of the ways of the step s to the state y that may give the fact the one that comes first: a head is entered
+abbrev pub sooner : Goal → Step → (x y : ℕ) → Rule → List Way
+sooner Nothing s x y ρ = []
+sooner (Head q g) s x y (exit a) = []
+sooner (Head q g) s x y (direct a g1) = enters s x a y g1 ∷ []
+sooner (Head q g) s x y (call a g1 g2) = enters s x a y g1 ∷ []
+sooner (Triple q g e) s x y (exit a) = leaves s q a y ∷ []
+sooner (Triple q g e) s x y (direct a g1) = backs s q a y g1 e ∷ []
+sooner (Triple q g e) s x y (call a g1 g2) = meets s q a y g1 g2 x e ∷ []
+
+-- and the one that comes after it: a head is returned to
+abbrev pub later : Goal → Step → (x y : ℕ) → Rule → List Way
+later Nothing s x y ρ = []
+later (Head q g) s x y (exit a) = []
+later (Head q g) s x y (direct a g1) = []
+later (Head q g) s x y (call a g1 g2) = returns s x a y g1 g2 q ∷ []
+later (Triple q g e) s x y ρ = []
+
+-- entering before returning
+abbrev pub chances : Goal → Step → (x y : ℕ) → Rule → List Way
+chances f s x y ρ = sooner f s x y ρ ++ later f s x y ρ
+
+abbrev pub chancesTo : Goal → Step → ℕ → Rule → Option ℕ → List Way
+chancesTo f s x ρ none = []
+chancesTo f s x ρ (some y) = chances f s x y ρ
+
+abbrev pub tried : (Fact → Bool) → Goal → Step → ℕ → Rule → Option ℕ → Option Way
+tried h f s x ρ o = find (explains h f) (chancesTo f s x ρ o)
+
+module _ (rulerows moverows : List ℕ) (shows : List Bool) (h : Fact → Bool) (f : Goal) where
+  -- by rule r, move v and the free state x
+  abbrev pub triedAt : (r v x : ℕ) → Option Way
+  triedAt r v x =
+      tried h f (stepOf r v) x (ruleAt rulerows r) (nextAt rulerows moverows shows r v (source f x))
+
+  -- the lowest state; the first move, then the lowest state; the first rule, then the first move, then the lowest state
+  abbrev pub byMove : (states r v : ℕ) → Option Way
+  byMove states r v = firstOf (triedAt r v) states
+
+  abbrev pub byRule : (moves states r : ℕ) → Option Way
+  byRule moves states r = firstOf (byMove states r) moves
+
+  abbrev pub searched : (rules moves states : ℕ) → Option Way
+  searched rules moves states = firstOf (byRule moves states) rules
+
+-- the explanation of a fact of rank k, in the two arrays
+abbrev pub whyIn : (rulerows moverows : List ℕ) → (shows : List Bool) → (symbols states : ℕ) → (heads triples : List ℕ) → (rules moves : ℕ) → ℕ → Goal → Option Way
+whyIn rulerows moverows shows symbols states heads triples rules moves k f =
+    searched rulerows moverows shows (below symbols states heads triples k) f rules moves states
+
+-- the explanation of a fact by its rank; one of rank 0 has none
+abbrev pub byRank : (ℕ → Goal → Option Way) → Goal → ℕ → Option Way
+byRank why f zero = none
+byRank why f (suc k) = why (suc k) f
