@@ -15,11 +15,11 @@ use Rattle.product.proofs.Lists.{over-over}
 use Rattle.model.specs.declared.Model.{Model}
 use Rattle.model.specs.Model.{productOf}
 use Rattle.model.proofs.Steps.{next-rows}
-use Rattle.explain.specs.declared.Goal.the-variants.{Head, Triple}
-use Rattle.explain.specs.First.{firstOf}
+use Rattle.culprit.specs.declared.Goal.the-variants.{Head, Triple}
+use Rattle.culprit.specs.First.{firstOf}
 use Rattle.explain.specs.Search.{stepOf, chances, tried, triedAt, byMove, byRule, searched}
-use Rattle.explain.specs.Answers.{goalOf}
-use Rattle.explain.proofs.First.{or-none, first-same, first-only, first-idle, first-steady, find-append, find-over, find-fails, find-one}
+use Rattle.culprit.specs.Culprit.{goalOf}
+use Rattle.culprit.proofs.First.{or-none, first-same, first-only, first-idle, first-steady, find-append, find-over, find-fails, find-one}
 
 -- the ways, rule by rule and move by move
 find-ways : (p : Product) (P : Way → Bool) → find P (ways p) ≡ firstOf (λ r. firstOf (λ v. find P (waysOf p (stepOf r v))) (p .moves)) (p .rules)

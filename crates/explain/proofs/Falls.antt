@@ -13,14 +13,15 @@ use Rattle.product.specs.Table.{Table}
 use Rattle.product.specs.Trace.{trace}
 use Rattle.product.proofs.Lists.{and-right, All-of, All-left, All-right, All-at}
 use Rattle.model.specs.Model.{ruleAt, nextAt}
-use Rattle.explain.specs.declared.Goal.{Goal}
-use Rattle.explain.specs.declared.Goal.the-variants.{Head, Triple, Nothing}
+use Rattle.culprit.specs.declared.Goal.{Goal}
+use Rattle.culprit.specs.declared.Goal.the-variants.{Head, Triple, Nothing}
 use Rattle.explain.specs.declared.Cause.{Cause}
 use Rattle.explain.specs.declared.Found.{Found}
 use Rattle.explain.specs.declared.Found.the-variants.{By}
 use Rattle.explain.specs.Search.{lower, gives, explains, stepOf, source, chancesTo, tried, triedAt, byMove, byRule, searched, byRank}
-use Rattle.explain.specs.Answers.{goalOf, firstIn, secondIn, causeOf, foundAs, rankOf}
-use Rattle.explain.proofs.First.{first-elim, find-elim}
+use Rattle.explain.specs.Answers.{firstIn, secondIn, causeOf, foundAs, rankOf}
+use Rattle.culprit.specs.Culprit.{goalOf}
+use Rattle.culprit.proofs.First.{first-elim, find-elim}
 use Rattle.explain.proofs.Tried.{found-some}
 
 -- of the facts in a list the first and the second that are asked for

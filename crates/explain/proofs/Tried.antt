@@ -19,15 +19,15 @@ use Rattle.model.specs.Model.{ruleAt, nextAt}
 use Rattle.model.specs.Answers.{ruleAs, meant, nextAs, landed}
 use Rattle.model.proofs.Answers.{meant-as}
 use Rattle.model.proofs.Bounds.{landed-as}
-use Rattle.explain.specs.declared.Goal.{Goal}
-use Rattle.explain.specs.declared.Goal.the-variants.{Head, Triple, Nothing}
+use Rattle.culprit.specs.declared.Goal.{Goal}
+use Rattle.culprit.specs.declared.Goal.the-variants.{Head, Triple, Nothing}
 use Rattle.explain.specs.declared.Cause.{Cause}
 use Rattle.explain.specs.declared.Found.{Found}
 use Rattle.explain.specs.declared.Found.the-variants.{By, Nowhere}
 use Rattle.explain.specs.Answers.{rankOf, factIn, needsOf, hasAll, firstHas, causeOf, foundAs}
 use Rattle.explain.specs.Search.{lower, stepOf, gives, explains, givenBy, source, sooner, later, chances, tried, triedAt, byMove, byRule, searched, byRank}
-use Rattle.explain.specs.First.{orElse, firstOf}
-use Rattle.explain.proofs.First.{first-here, find-append}
+use Rattle.culprit.specs.First.{orElse, firstOf}
+use Rattle.culprit.proofs.First.{first-here, find-append}
 use Rattle.explain.proofs.Given.{found-if}
 
 -- a fact that is asked for, by its rank; where none is, that is 0

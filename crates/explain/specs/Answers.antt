@@ -6,15 +6,12 @@ use Prim.Native.Nat.{ℕ}
 use Rattle.product.specs.Lists.{all}
 use Rattle.product.specs.Facts.{Fact, head, triple, Way}
 use Rattle.product.specs.Table.{Table}
-use Rattle.explain.specs.declared.Goal.{Goal}
-use Rattle.explain.specs.declared.Goal.the-variants.{Head, Triple, Nothing}
+use Rattle.culprit.specs.declared.Goal.{Goal}
+use Rattle.culprit.specs.declared.Goal.the-variants.{Head, Triple, Nothing}
+use Rattle.culprit.specs.Culprit.{goalOf}
 use Rattle.explain.specs.declared.Cause.{Cause}
 use Rattle.explain.specs.declared.Found.{Found}
 use Rattle.explain.specs.declared.Found.the-variants.{By, Nowhere}
-
-abbrev pub goalOf : Fact → Goal
-goalOf (head q g) = Head q g
-goalOf (triple q g e) = Triple q g e
 
 -- the first and the second fact that a list has
 abbrev pub firstIn : List Fact → Goal

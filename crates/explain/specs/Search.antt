@@ -10,9 +10,9 @@ use Rattle.product.specs.Facts.{Fact, head, triple, Way, needs, same, leaves, e
 use Rattle.product.specs.Table.{Table}
 use Rattle.model.specs.Model.{ruleAt, nextAt}
 use Rattle.table.specs.Cells.{view}
-use Rattle.explain.specs.declared.Goal.{Goal}
-use Rattle.explain.specs.declared.Goal.the-variants.{Head, Triple, Nothing}
-use Rattle.explain.specs.First.{firstOf}
+use Rattle.culprit.specs.declared.Goal.{Goal}
+use Rattle.culprit.specs.declared.Goal.the-variants.{Head, Triple, Nothing}
+use Rattle.culprit.specs.First.{firstOf}
 
 -- the facts of rank below k, in a table and in its two arrays
 abbrev pub lower : Table → ℕ → Fact → Bool

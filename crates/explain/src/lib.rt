@@ -4,6 +4,7 @@ ghost use Prim.Native.Nat.{suc};
 ghost use Rattle.table.specs.Cells.{view};
 ghost use Rattle.explain.specs.Answers.{foundAs, rankOf};
 ghost use Rattle.explain.specs.Search.{whyIn, byRank};
+use culprit::Goal;
 use table::Size;
 
 mod ways; // the ways in which a step may give a fact
@@ -14,13 +15,6 @@ pub struct Counts {
     pub size: Size,
     pub rules: usize,
     pub moves: usize,
-}
-
-// A fact whose run is asked for: a head, a triple; or none is needed.
-pub enum Goal {
-    Nothing,
-    Head(usize, usize),
-    Triple(usize, usize, usize),
 }
 
 // An explanation: its rule and move, the head before the step, and the triples that are run after it.

@@ -5,12 +5,12 @@ ghost use lib.Dec.{eqb};
 ghost use Rattle.model.specs.Answers.{meant};
 ghost use Rattle.explain.specs.Answers.{causeBy, foundAs};
 ghost use Rattle.explain.specs.declared.Found.the-variants.{By, Nowhere};
-ghost use Rattle.explain.specs.declared.Goal.the-variants.{Head, Triple};
+ghost use Rattle.culprit.specs.declared.Goal.the-variants.{Head, Triple};
 ghost use Rattle.explain.specs.Search.{stepOf, sooner, later, givenBy};
 use crate::Cause;
 use crate::Found;
-use crate::Goal;
 use crate::Step;
+use culprit::Goal;
 use model::Rule;
 
 // A cause by the step, if the symbol a that it gives is the symbol g that is asked for.

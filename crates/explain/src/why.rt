@@ -4,10 +4,10 @@ ghost use Prim.Native.Nat.{suc};
 ghost use Rattle.explain.specs.Answers.{foundAs, hasAll, firstHas};
 ghost use Rattle.explain.specs.Search.{below, source, triedAt};
 use crate::Found;
-use crate::Goal;
 use crate::Step;
 use crate::rank_of;
 use crate::ways;
+use culprit::Goal;
 use model::Next;
 use table::Size;
 

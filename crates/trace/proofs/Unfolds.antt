@@ -17,15 +17,16 @@ use Rattle.product.proofs.Rounds.{In, of-works, grown-up}
 use Rattle.product.proofs.Ranks.{ranks-rank}
 use Rattle.product.proofs.Falling.{along-same, unfolded, trace-later, trace-falls}
 use Rattle.product.proofs.Ways.{EachWay, steps-ways}
-use Rattle.explain.specs.declared.Goal.{Goal}
-use Rattle.explain.specs.declared.Goal.the-variants.{Head, Triple, Nothing}
+use Rattle.culprit.specs.declared.Goal.{Goal}
+use Rattle.culprit.specs.declared.Goal.the-variants.{Head, Triple, Nothing}
 use Rattle.explain.specs.declared.Cause.{Cause}
 use Rattle.explain.specs.declared.Found.{Found}
 use Rattle.explain.specs.declared.Found.the-variants.{By, Nowhere}
 use Rattle.explain.specs.Search.{byRank}
-use Rattle.explain.specs.Answers.{goalOf, firstIn, secondIn, causeOf, foundAs, rankOf}
+use Rattle.explain.specs.Answers.{firstIn, secondIn, causeOf, foundAs, rankOf}
+use Rattle.culprit.specs.Culprit.{goalOf}
 use Rattle.trace.specs.Unfold.{Wrote, Explains, HeldFor, stepsFor, Unfolded}
-use Rattle.explain.proofs.First.{find-elim}
+use Rattle.culprit.proofs.First.{find-elim}
 use Rattle.explain.proofs.Tried.{found-none, found-some}
 use Rattle.trace.proofs.Wrote.{wrote-none, wrote-cut, wrote-then}
 use Rattle.explain.proofs.Falls.{first-of, second-of, same-cause}

@@ -19,15 +19,14 @@ use Rattle.model.specs.declared.Model.{Model}
 use Rattle.model.specs.Model.{productOf}
 use Rattle.model.proofs.Bounds.{start-state-in, start-symbol-in}
 use Rattle.table.specs.Cells.{view}
-use Rattle.explain.specs.declared.Goal.{Goal}
+use Rattle.culprit.specs.declared.Goal.{Goal}
 use Rattle.trace.specs.declared.Traced.the-variants.{Found, Cut}
-use Rattle.explain.specs.Answers.{goalOf}
+use Rattle.culprit.specs.Culprit.{goalOf, goalAs, culpritIn}
 use Rattle.explain.specs.Search.{whyIn}
-use Rattle.trace.specs.Culprit.{goalAs, culpritIn}
 use Rattle.trace.specs.Unfold.{Wrote, HeldFor, stepsFor, Unfolded}
 use Rattle.trace.specs.Written.{Ranked, violationSteps, Written}
-use Rattle.explain.proofs.First.{find-elim}
-use Rattle.trace.proofs.Taken.{culprit-found}
+use Rattle.culprit.proofs.First.{find-elim}
+use Rattle.culprit.proofs.Found.{culprit-held}
 use Rattle.trace.proofs.Ranked.{explains-ranked}
 
 module _ (p : Product) (n : ℕ) where
@@ -48,7 +47,7 @@ module _ (m : Model) (n : ℕ) (hs ts : List ℕ) (R : Ranked m n hs ts) {f : Go
     (taken : f ≡ goalAs (culpritIn (m .finals) (m .symbols) (m .states) hs ts (m .startstate) (m .startsymbol))) {room room′ : List ℕ} {at : ℕ}
     (u : Unfolded (view (m .symbols) (m .states) hs ts) (whyIn (m .rulerows) (m .moverows) (m .shows) (m .symbols) (m .states) hs ts (m .rules) (m .moves)) f room 0 at room′) where
   is-culprit : f ≡ goalAs (culprit (productOf m) n)
-  is-culprit = taken ∙ ap goalAs (culprit-found m hs ts (start-state-in m (R .valid-model)) (start-symbol-in m (R .valid-model)) n (R .small) (R .table))
+  is-culprit = taken ∙ ap goalAs (culprit-held (productOf m) (m .finals) (m .states) refl (λ _. refl) hs ts (start-state-in m (R .valid-model)) (start-symbol-in m (R .valid-model)) n (R .small) (R .table))
 
   wrote : Wrote room 0 (each (violationSteps m n) stored) at room′
   wrote =

@@ -1,4 +1,3 @@
 pub mod Unfold
-pub mod Culprit
 pub mod Written
 pub mod Outcome

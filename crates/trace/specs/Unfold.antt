@@ -12,9 +12,9 @@ use Rattle.product.specs.Facts.{Fact, head, triple, Way}
 use Rattle.product.specs.Rounds.{held}
 use Rattle.product.specs.Table.{Table, ranks}
 use Rattle.product.specs.Trace.{explanation, trace}
-use Rattle.explain.specs.declared.Goal.{Goal}
-use Rattle.explain.specs.declared.Goal.the-variants.{Head, Triple, Nothing}
-use Rattle.explain.specs.Answers.{goalOf}
+use Rattle.culprit.specs.declared.Goal.{Goal}
+use Rattle.culprit.specs.declared.Goal.the-variants.{Head, Triple, Nothing}
+use Rattle.culprit.specs.Culprit.{goalOf}
 
 -- The numbers were written from the place on, and the place after them is given back; past the room nothing is written, and the place one after its
 -- end says that something was cut.

@@ -7,10 +7,10 @@ ghost use Rattle.explain.specs.Search.{whyIn};
 ghost use Rattle.trace.specs.Unfold.{Wrote, Storable, Unfolded};
 ghost use Rattle.trace.specs.Written.{Ranked, Written};
 ghost use Rattle.trace.specs.Outcome.{Outcome};
+use culprit::Goal;
 use decide::Decision;
 use explain::Counts;
 use explain::Found;
-use explain::Goal;
 use model::Model;
 use table::Size;
 
@@ -23,8 +23,6 @@ pub enum Traced {
     Safe(u16),
     Cut(u16, usize),
 }
-
-mod culprit; // the violating fact that is taken
 
 // Writes a step, if there is room, and gives the next place: one past the end of the room where it was cut.
 fn put(room: &mut [u16], at: usize, rule: usize, by: usize) -> usize

@@ -1,10 +1,10 @@
 -- `explain::first_cause` meets its contract. The invariant of each loop is that nothing was found below its number; what is found first leaves all three.
 -- Assumes nothing.
 use borrow.Author.Needs.{needs}
-use Rattle.explain.specs.First.{firstOf}
+use Rattle.culprit.specs.First.{firstOf}
 use Rattle.explain.specs.Search.{below, triedAt, byMove, byRule}
 use Rattle.explain.specs.Answers.{foundAs}
-use Rattle.explain.proofs.First.{first-none, first-more, first-done}
+use Rattle.culprit.proofs.First.{first-none, first-more, first-done}
 use Rattle.explain.proofs.Tried.{found-none, search-here}
 use mathlib.Core.Option.{none}
 use mathlib.Core.Path.{_≡_, sym, ap}
