@@ -31,7 +31,7 @@ read-line-requires : tie.Need-read-line-requires Inv-loop μ-loop
 read-line-requires c κs = search needs
 
 take-line-requires : tie.Need-take-line-requires Inv-loop μ-loop
-take-line-requires c κs = c .before .before .before .loop .inv .sized
+take-line-requires c κs = search needs
 
 numbered-requires : tie.Need-numbered-requires Inv-loop μ-loop
 numbered-requires c κs = search needs
