@@ -9,7 +9,7 @@ use Rattle.line.specs.declared.Line.{Line}
 use Rattle.line.specs.declared.Word.{Word}
 use Rattle.line.specs.declared.Word.the-variants.{Size, Start, Final, Event, Exit, Direct, Call, Move, Safe, Head, Erase, Malformed}
 use Rattle.limits.specs.declared.Counts.{Counts}
-use Rattle.limits.specs.Limits.{refusal, testsOf}
+use Rattle.limits.specs.Limits.{refusal, tests}
 use Rattle.model.specs.declared.Model.{Model}
 use Rattle.draft.specs.declared.Draft.{Draft}
 use Rattle.draft.specs.declared.Taken.{Taken}
@@ -143,24 +143,27 @@ ruleLine d kind g g1 g2 = record { started = d .started; model = withRule (d .mo
 abbrev pub moveLine : Draft → (q e q′ : ℕ) → Draft
 moveLine d q e q′ = record { started = d .started; model = withMove (d .model) q e q′ }
 
--- the draft after a line that is not refused, by its word and its numbers
-abbrev pub after : Draft → Word → List ℕ → Draft
-after d Size a = sizeLine d (getD a 0 0) (getD a 1 0) (getD a 2 0)
-after d Start a = startLine d (getD a 0 0) (getD a 1 0)
-after d Final a = finalLine d (getD a 0 0)
-after d Event a = eventLine d (getD a 0 0) (getD a 1 0)
-after d Exit a = ruleLine d 0 (getD a 0 0) 0 0
-after d Direct a = ruleLine d 1 (getD a 0 0) (getD a 1 0) 0
-after d Call a = ruleLine d 2 (getD a 0 0) (getD a 1 0) (getD a 2 0)
-after d Move a = moveLine d (getD a 0 0) (getD a 1 0) (getD a 2 0)
-after d Safe a = d
-after d Head a = d
-after d Erase a = d
-after d Malformed a = d
+-- the draft after a line that is not refused, by its word and its first three numbers
+abbrev pub after : Draft → Word → (a b c : ℕ) → Draft
+after d Size a b c = sizeLine d a b c
+after d Start a b c = startLine d a b
+after d Final a b c = finalLine d a
+after d Event a b c = eventLine d a b
+after d Exit a b c = ruleLine d 0 a 0 0
+after d Direct a b c = ruleLine d 1 a b 0
+after d Call a b c = ruleLine d 2 a b c
+after d Move a b c = moveLine d a b c
+after d Safe a b c = d
+after d Head a b c = d
+after d Erase a b c = d
+after d Malformed a b c = d
 
 -- a line that is refused changes nothing
 abbrev pub taken : Draft → ℕ → Draft → Taken
 taken d n next = record { refusal = n; draft = pick (eqb n 0) next d }
 
+abbrev pub takeWord : Draft → Word → (a b c : ℕ) → Taken
+takeWord d w a b c = taken d (refusal (tests (countsOf d) w a b c)) (after d w a b c)
+
 unfoldable pub takeLine : Draft → Line → Taken
-takeLine d l = taken d (refusal (testsOf (countsOf d) l)) (after d (l .word) (l .numbers .at))
+takeLine d l = takeWord d (l .word) (getD (l .numbers .at) 0 0) (getD (l .numbers .at) 1 0) (getD (l .numbers .at) 2 0)

@@ -2,7 +2,7 @@
 ghost use mathlib.Core.Path.{_≡_};
 ghost use Prim.Native.Nat.{ℕ, _<_, _≤_};
 ghost use Rattle.limits.specs.Limits.{Fits};
-ghost use Rattle.draft.specs.Lines.{countsOf, sizeLine, startLine, finalLine, eventLine, ruleLine, moveLine, after, takeLine};
+ghost use Rattle.draft.specs.Lines.{countsOf, sizeLine, startLine, finalLine, eventLine, ruleLine, moveLine, after, takeWord, takeLine};
 use limits::Counts;
 use line::Line;
 use line::Word;
@@ -113,17 +113,11 @@ fn put_move(d: Draft, source: u32, event: u32, target: u32) -> Draft
     }
 }
 
-// The draft after a line that is not refused.
-fn put(d: Draft, l: Line) -> Draft
-    requires { ⌜ Fits (countsOf d) (l .word) (l .numbers .at) ⌝ }
-    ensures { λ r. ⌜ r ≡ after d (l .word) (l .numbers .at) ⌝ }
+// The draft after a line that is not refused, by its word and its first three numbers.
+fn put(d: Draft, w: Word, a: u32, b: u32, c: u32) -> Draft
+    requires { ⌜ Fits (countsOf d) w a b c ⌝ }
+    ensures { λ r. ⌜ r ≡ after d w a b c ⌝ }
 {
-    let w = l.word;
-    let numbers = l.numbers;
-    let at = numbers.at;
-    let a = at[0];
-    let b = at[1];
-    let c = at[2];
     match w {
         Word::Malformed => d,
         Word::Safe => d,
@@ -140,9 +134,9 @@ fn put(d: Draft, l: Line) -> Draft
     }
 }
 
-// What a line does: a refused line changes nothing.
-pub fn take_line(d: Draft, l: Line) -> Taken
-    ensures { λ r. ⌜ r ≡ takeLine d l ⌝ }
+// A line that is refused changes nothing.
+fn put_word(d: Draft, w: Word, a: u32, b: u32, c: u32) -> Taken
+    ensures { λ r. ⌜ r ≡ takeWord d w a b c ⌝ }
 {
     let m = d.model;
     let k = Counts {
@@ -153,10 +147,20 @@ pub fn take_line(d: Draft, l: Line) -> Taken
         rules: m.rules,
         moves: m.moves,
     };
-    let refusal = limits::refusal_of(k, l);
+    let refusal = limits::refusal_of(k, w, a, b, c);
     if refusal != 0 {
         return Taken { refusal, draft: d };
     }
-    let draft = put(d, l);
+    let draft = put(d, w, a, b, c);
     Taken { refusal, draft }
+}
+
+// What a line does.
+pub fn take_line(d: Draft, l: Line) -> Taken
+    ensures { λ r. ⌜ r ≡ takeLine d l ⌝ }
+{
+    let word = l.word;
+    let numbers = l.numbers;
+    let at = numbers.at;
+    put_word(d, word, at[0], at[1], at[2])
 }

@@ -1,11 +1,9 @@
 -- A line that is not refused failed every test, and so fits. Assumes nothing.
 use mathlib.Core.Bool.{Bool, true, false, _||_}
-use mathlib.Core.List.{List}
 use mathlib.Core.Path.{_≡_, refl}
 use Prim.Native.Nat.{ℕ, suc}
 use native.Mathlib.Omega.{arith}
 use lib.Dec.{ltb}
-use lib.ListN.{getD}
 use borrow.Author.Tests.{ltb-false, leb-false}
 use Rattle.text.specs.Split.{pick}
 use Rattle.line.specs.declared.Word.{Word}
@@ -49,23 +47,23 @@ never e = let z : _≡_ {A = ℕ} 0 1 = cc in omega arith
 rule-fits : (k : Counts) (g g1 g2 : ℕ) → Passed (ruleTests k g g1 g2) → RuleFits k g g1 g2
 rule-fits k g g1 g2 p = (leb-false 256 _ (p .full), leb-false _ g (p .first), leb-false _ g1 (p .second), leb-false _ g2 (p .third))
 
-by-word : (k : Counts) (w : Word) (a : List ℕ) → Passed (tests k w a) → Fits k w a
-by-word k Size a p =
+by-word : (k : Counts) (w : Word) (a b c : ℕ) → Passed (tests k w a b c) → Fits k w a b c
+by-word k Size a b c p =
     let l = ltb-false 0 (k .symbols) (p .misplaced) in
-    (omega arith, counted 32 (getD a 0 0) (p .first), counted 8 (getD a 1 0) (p .second), counted 16 (getD a 2 0) (p .third))
-by-word k Start a p =
+    (omega arith, counted 32 a (p .first), counted 8 b (p .second), counted 16 c (p .third))
+by-word k Start a b c p =
     let l = ltb-false 0 (k .started) (neither (unsized k) (ltb 0 (k .started)) (p .misplaced) .1) in
-    (omega arith, leb-false _ (getD a 0 0) (p .first), leb-false _ (getD a 1 0) (p .second))
-by-word k Final a p = leb-false _ (getD a 0 0) (p .first)
-by-word k Event a p = (leb-false _ (getD a 0 0) (p .first), leb-false _ (getD a 1 0) (p .second))
-by-word k Exit a p = rule-fits k (getD a 0 0) 0 0 p
-by-word k Direct a p = rule-fits k (getD a 0 0) (getD a 1 0) 0 p
-by-word k Call a p = rule-fits k (getD a 0 0) (getD a 1 0) (getD a 2 0) p
-by-word k Move a p = (leb-false 128 _ (p .full), leb-false _ (getD a 0 0) (p .first), leb-false _ (getD a 1 0) (p .second), leb-false _ (getD a 2 0) (p .third))
-by-word k Safe a p = never (p .malformed)
-by-word k Head a p = never (p .malformed)
-by-word k Erase a p = never (p .malformed)
-by-word k Malformed a p = never (p .malformed)
+    (omega arith, leb-false _ a (p .first), leb-false _ b (p .second))
+by-word k Final a b c p = leb-false _ a (p .first)
+by-word k Event a b c p = (leb-false _ a (p .first), leb-false _ b (p .second))
+by-word k Exit a b c p = rule-fits k a 0 0 p
+by-word k Direct a b c p = rule-fits k a b 0 p
+by-word k Call a b c p = rule-fits k a b c p
+by-word k Move a b c p = (leb-false 128 _ (p .full), leb-false _ a (p .first), leb-false _ b (p .second), leb-false _ c (p .third))
+by-word k Safe a b c p = never (p .malformed)
+by-word k Head a b c p = never (p .malformed)
+by-word k Erase a b c p = never (p .malformed)
+by-word k Malformed a b c p = never (p .malformed)
 
-pub fits : (k : Counts) (w : Word) (a : List ℕ) → refusal (tests k w a) ≡ 0 → Fits k w a
-fits k w a e = by-word k w a (passed (tests k w a) e)
+pub fits : (k : Counts) (w : Word) (a b c : ℕ) {n : ℕ} → n ≡ refusal (tests k w a b c) → n ≡ 0 → Fits k w a b c
+fits k w a b c p e = by-word k w a b c (passed (tests k w a b c) (rw p at e))

@@ -1,12 +1,9 @@
 -- When a line of a model text is refused, and by which number, from what was read before it. Assumes nothing.
 use mathlib.Core.Bool.{Bool, true, false, _||_}
-use mathlib.Core.List.{List}
 use mathlib.Core.Path.{_≡_}
 use Prim.Native.Nat.{ℕ, _≤_, _<_}
 use lib.Dec.{eqb, leb, ltb}
-use lib.ListN.{getD}
 use Rattle.text.specs.Split.{pick}
-use Rattle.line.specs.declared.Line.{Line}
 use Rattle.line.specs.declared.Word.{Word}
 use Rattle.line.specs.declared.Word.the-variants.{Size, Start, Final, Event, Exit, Direct, Call, Move, Safe, Head, Erase, Malformed}
 use Rattle.limits.specs.declared.Counts.{Counts}
@@ -58,23 +55,20 @@ ruleTests k g g1 g2 = judged (unsized k) (leb (k .symbols) g) (leb (k .symbols) 
 abbrev pub moveTests : Counts → (q e q′ : ℕ) → Tests
 moveTests k q e q′ = judged (unsized k) (leb (k .states) q) (leb (k .events) e) (leb (k .states) q′) (leb 128 (k .moves))
 
--- by the word and its numbers; the words of a listing are none here
-abbrev pub tests : Counts → Word → List ℕ → Tests
-tests k Size a = sizeTests k (getD a 0 0) (getD a 1 0) (getD a 2 0)
-tests k Start a = startTests k (getD a 0 0) (getD a 1 0)
-tests k Final a = finalTests k (getD a 0 0)
-tests k Event a = eventTests k (getD a 0 0) (getD a 1 0)
-tests k Exit a = ruleTests k (getD a 0 0) 0 0
-tests k Direct a = ruleTests k (getD a 0 0) (getD a 1 0) 0
-tests k Call a = ruleTests k (getD a 0 0) (getD a 1 0) (getD a 2 0)
-tests k Move a = moveTests k (getD a 0 0) (getD a 1 0) (getD a 2 0)
-tests k Safe a = none
-tests k Head a = none
-tests k Erase a = none
-tests k Malformed a = none
-
-abbrev pub testsOf : Counts → Line → Tests
-testsOf k l = tests k (l .word) (l .numbers .at)
+-- by the word and its first three numbers; the words of a listing are none here
+abbrev pub tests : Counts → Word → (a b c : ℕ) → Tests
+tests k Size a b c = sizeTests k a b c
+tests k Start a b c = startTests k a b
+tests k Final a b c = finalTests k a
+tests k Event a b c = eventTests k a b
+tests k Exit a b c = ruleTests k a 0 0
+tests k Direct a b c = ruleTests k a b 0
+tests k Call a b c = ruleTests k a b c
+tests k Move a b c = moveTests k a b c
+tests k Safe a b c = none
+tests k Head a b c = none
+tests k Erase a b c = none
+tests k Malformed a b c = none
 
 -- What holds of a line that is not refused.
 abbrev pub Counted : (most n : ℕ) → Type 0
@@ -83,16 +77,16 @@ Counted most n = (1 ≤ n) × (n ≤ most)
 abbrev pub RuleFits : Counts → (g g1 g2 : ℕ) → Type 0
 RuleFits k g g1 g2 = (k .rules < 256) × (g < k .symbols) × (g1 < k .symbols) × (g2 < k .symbols)
 
-abbrev pub Fits : Counts → Word → List ℕ → Type 0
-Fits k Size a = (k .symbols ≡ 0) × Counted 32 (getD a 0 0) × Counted 8 (getD a 1 0) × Counted 16 (getD a 2 0)
-Fits k Start a = (k .started ≡ 0) × (getD a 0 0 < k .states) × (getD a 1 0 < k .symbols)
-Fits k Final a = getD a 0 0 < k .states
-Fits k Event a = (getD a 0 0 < k .symbols) × (getD a 1 0 < k .events)
-Fits k Exit a = RuleFits k (getD a 0 0) 0 0
-Fits k Direct a = RuleFits k (getD a 0 0) (getD a 1 0) 0
-Fits k Call a = RuleFits k (getD a 0 0) (getD a 1 0) (getD a 2 0)
-Fits k Move a = (k .moves < 128) × (getD a 0 0 < k .states) × (getD a 1 0 < k .events) × (getD a 2 0 < k .states)
-Fits k Safe a = ⊥
-Fits k Head a = ⊥
-Fits k Erase a = ⊥
-Fits k Malformed a = ⊥
+abbrev pub Fits : Counts → Word → (a b c : ℕ) → Type 0
+Fits k Size a b c = (k .symbols ≡ 0) × Counted 32 a × Counted 8 b × Counted 16 c
+Fits k Start a b c = (k .started ≡ 0) × (a < k .states) × (b < k .symbols)
+Fits k Final a b c = a < k .states
+Fits k Event a b c = (a < k .symbols) × (b < k .events)
+Fits k Exit a b c = RuleFits k a 0 0
+Fits k Direct a b c = RuleFits k a b 0
+Fits k Call a b c = RuleFits k a b c
+Fits k Move a b c = (k .moves < 128) × (a < k .states) × (b < k .events) × (c < k .states)
+Fits k Safe a b c = ⊥
+Fits k Head a b c = ⊥
+Fits k Erase a b c = ⊥
+Fits k Malformed a b c = ⊥

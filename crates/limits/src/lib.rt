@@ -2,8 +2,7 @@
 // the tests of each line.
 ghost use mathlib.Core.Bool.{_||_};
 ghost use mathlib.Core.Path.{_≡_};
-ghost use Rattle.limits.specs.Limits.{refusal, judged, uncounted, sizeTests, startTests, finalTests, eventTests, ruleTests, moveTests, testsOf};
-use line::Line;
+ghost use Rattle.limits.specs.Limits.{refusal, judged, uncounted, sizeTests, startTests, finalTests, eventTests, ruleTests, moveTests, tests};
 use line::Word;
 
 const SYMBOLS: u32 = 32;
@@ -134,16 +133,11 @@ fn move_refusal(k: Counts, source: u32, event: u32, target: u32) -> u8
     )
 }
 
-// The number of the refusal of a line, 0 where it is taken. The words of a listing are malformed here.
-pub fn refusal_of(k: Counts, l: Line) -> u8
-    ensures { λ r. ⌜ r ≡ refusal (testsOf k l) ⌝ }
+// The number of the refusal of a line by its word and its first three numbers, 0 where it is taken. The words of a listing
+// are malformed here.
+pub fn refusal_of(k: Counts, w: Word, a: u32, b: u32, c: u32) -> u8
+    ensures { λ r. ⌜ r ≡ refusal (tests k w a b c) ⌝ }
 {
-    let w = l.word;
-    let numbers = l.numbers;
-    let at = numbers.at;
-    let a = at[0];
-    let b = at[1];
-    let c = at[2];
     match w {
         Word::Size => size_refusal(k, a, b, c),
         Word::Start => start_refusal(k, a, b),

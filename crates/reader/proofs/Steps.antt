@@ -37,14 +37,14 @@ module _ {s : Said} {d : Draft} (h : Good s d) where
         moves = h .moves;
       }
 
-  kept : (w : Word) (a : List ℕ) → Fits (countsOf d) w a → Good (more s w a) (after d w a)
-  kept Size a (none, g, q, e) = absurd (omega (arith, h .sizes .some-symbol))
-  kept Start a (unstarted, l, k) =
+  kept : (w : Word) (a b c : ℕ) → Fits (countsOf d) w a b c → Good (more s w a b c) (after d w a b c)
+  kept Size a b c (none, g, q, e) = absurd (omega (arith, h .sizes .some-symbol))
+  kept Start a b c (unstarted, l, k) =
       record {
         sizes = h .sizes;
         start = record {
           none = λ e. absurd (omega arith);
-          one = λ _. ap (λ xs. xs ++ (getD a 0 0, getD a 1 0) ∷ []) (h .start .none unstarted);
+          one = λ _. ap (λ xs. xs ++ (a, b) ∷ []) (h .start .none unstarted);
           state-in = λ _. l;
           symbol-in = λ _. k;
         };
@@ -53,45 +53,45 @@ module _ {s : Said} {d : Draft} (h : Good s d) where
         rules = h .rules;
         moves = h .moves;
       }
-  kept Final a l =
+  kept Final a b c l =
       record {
         sizes = h .sizes;
         start = h .start;
-        finals = final-line (h .finals) (getD a 0 0) (omega (arith, h .sizes .most-states));
+        finals = final-line (h .finals) a (omega (arith, h .sizes .most-states));
         events = h .events;
         rules = h .rules;
         moves = h .moves;
       }
-  kept Event a (l, k) =
+  kept Event a b c (l, k) =
       record {
         sizes = h .sizes;
         start = h .start;
         finals = h .finals;
-        events = event-line (h .events) (getD a 0 0) (getD a 1 0) (omega (arith, h .sizes .most-symbols)) (omega (arith, h .sizes .most-events));
+        events = event-line (h .events) a b (omega (arith, h .sizes .most-symbols)) (omega (arith, h .sizes .most-events));
         rules = h .rules;
         moves = h .moves;
       }
-  kept Exit a t = rule-kept 0 (getD a 0 0) 0 0 (omega arith) t
-  kept Direct a t = rule-kept 1 (getD a 0 0) (getD a 1 0) 0 (omega arith) t
-  kept Call a t = rule-kept 2 (getD a 0 0) (getD a 1 0) (getD a 2 0) (omega arith) t
-  kept Move a (few, l, k, l′) =
+  kept Exit a b c t = rule-kept 0 a 0 0 (omega arith) t
+  kept Direct a b c t = rule-kept 1 a b 0 (omega arith) t
+  kept Call a b c t = rule-kept 2 a b c (omega arith) t
+  kept Move a b c (few, l, k, l′) =
       record {
         sizes = h .sizes;
         start = h .start;
         finals = h .finals;
         events = h .events;
         rules = h .rules;
-        moves = move-line (h .moves) (record { source = getD a 0 0; event = getD a 1 0; target = getD a 2 0 }) few l k l′;
+        moves = move-line (h .moves) (record { source = a; event = b; target = c }) few l k l′;
       }
-  kept Safe a t = absurd t
-  kept Head a t = absurd t
-  kept Erase a t = absurd t
-  kept Malformed a t = absurd t
+  kept Safe a b c t = absurd t
+  kept Head a b c t = absurd t
+  kept Erase a b c t = absurd t
+  kept Malformed a b c t = absurd t
 
 -- the first line is the size
-first-kept : (w : Word) (a : List ℕ) → Fits (countsOf fresh) w a → Good (more nothing w a) (after fresh w a)
+first-kept : (w : Word) (a b c : ℕ) → Fits (countsOf fresh) w a b c → Good (more nothing w a b c) (after fresh w a b c)
 unfolding empty
-first-kept Size a (_, (g, g′), (q, q′), (e, e′)) =
+first-kept Size a b c (_, (g, g′), (q, q′), (e, e′)) =
     record {
       sizes = record { some-symbol = g; most-symbols = g′; some-state = q; most-states = q′; some-event = e; most-events = e′; same = refl };
       start = record { none = λ _. refl; one = λ n. absurd (n refl); state-in = λ n. absurd (n refl); symbol-in = λ n. absurd (n refl) };
@@ -100,17 +100,17 @@ first-kept Size a (_, (g, g′), (q, q′), (e, e′)) =
       rules = record { few = omega arith; room = length-replicate {A = ℕ} 1024 0; all-in = λ r l. absurd (omega arith); same = refl };
       moves = record { few = omega arith; room = length-replicate {A = ℕ} 384 0; all-in = λ v l. absurd (omega arith); same = refl };
     }
-first-kept Start a (_, l, k) = absurd (omega arith)
-first-kept Final a l = absurd (omega arith)
-first-kept Event a (l, k) = absurd (omega arith)
-first-kept Exit a (few, l, l1, l2) = absurd (omega arith)
-first-kept Direct a (few, l, l1, l2) = absurd (omega arith)
-first-kept Call a (few, l, l1, l2) = absurd (omega arith)
-first-kept Move a (few, l, k, l′) = absurd (omega arith)
-first-kept Safe a t = absurd t
-first-kept Head a t = absurd t
-first-kept Erase a t = absurd t
-first-kept Malformed a t = absurd t
+first-kept Start a b c (_, l, k) = absurd (omega arith)
+first-kept Final a b c l = absurd (omega arith)
+first-kept Event a b c (l, k) = absurd (omega arith)
+first-kept Exit a b c (few, l, l1, l2) = absurd (omega arith)
+first-kept Direct a b c (few, l, l1, l2) = absurd (omega arith)
+first-kept Call a b c (few, l, l1, l2) = absurd (omega arith)
+first-kept Move a b c (few, l, k, l′) = absurd (omega arith)
+first-kept Safe a b c t = absurd t
+first-kept Head a b c t = absurd t
+first-kept Erase a b c t = absurd t
+first-kept Malformed a b c t = absurd t
 
 -- before the first line, and after it
 abbrev pub Held : Said → Draft → Type 0
@@ -118,5 +118,5 @@ Held s d = ((s ≡ nothing) × (d ≡ fresh)) ⊎ Good s d
 
 -- a line that is taken
 pub line-kept : {s : Said} {d : Draft} (l : Line) → Held s d → takeLine d l .refusal ≡ 0 → Good (andLine s l) (takeLine d l .draft)
-line-kept l (inl (p, q)) e = let (t, r) = gone-on _ l e in rw (r, p, q) (first-kept (l .word) (l .numbers .at) (rw q at t))
-line-kept {s} {d} l (inr h) e = let (t, r) = gone-on d l e in rw r (kept h (l .word) (l .numbers .at) t)
+line-kept l (inl (p, q)) e = let (t, r) = gone-on _ l e in rw (r, p, q) (first-kept (l .word) _ _ _ (rw q at t))
+line-kept {s} {d} l (inr h) e = let (t, r) = gone-on d l e in rw r (kept h (l .word) _ _ _ t)

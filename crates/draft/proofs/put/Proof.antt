@@ -3,15 +3,6 @@ use borrow.Author.Needs.{needs}
 use Rattle.draft.proofs.put.Statement.{statement}
 use Rattle.draft.proofs.put.Tie as tie
 
-array-read-a : tie.Need-array-read-a
-array-read-a c = search needs
-
-array-read-b : tie.Need-array-read-b
-array-read-b c = search needs
-
-array-read-c : tie.Need-array-read-c
-array-read-c c = search needs
-
 enum-told : tie.Need-enum-told
 enum-told c = search needs
 
@@ -28,13 +19,13 @@ enum-told-5 : tie.Need-enum-told-5
 enum-told-5 c = search needs
 
 put-size-requires : tie.Need-put-size-requires
-put-size-requires c κs = let p = rw (c .enum-told5 .given .1) at (c .before .before .before .before .pre) in (p .1 .1, p .2 .1, p .3 .1)
+put-size-requires c κs = let p = rw (c .enum-told5 .given .1) at (c .before .before .pre) in (p .1 .1, p .2 .1, p .3 .1)
 
 enum-told-6 : tie.Need-enum-told-6
 enum-told-6 c = search needs
 
 put-start-requires : tie.Need-put-start-requires
-put-start-requires c κs = let p = rw (c .enum-told6 .given .1) at (c .before .before .before .before .pre) in (p .1, p .2)
+put-start-requires c κs = let p = rw (c .enum-told6 .given .1) at (c .before .before .pre) in (p .1, p .2)
 
 enum-told-7 : tie.Need-enum-told-7
 enum-told-7 c = search needs
@@ -52,25 +43,25 @@ enum-told-9 : tie.Need-enum-told-9
 enum-told-9 c = search needs
 
 put-rule-requires : tie.Need-put-rule-requires
-put-rule-requires c κs = rw (c .enum-told9 .given .1) at (c .before .before .before .before .pre)
+put-rule-requires c κs = rw (c .enum-told9 .given .1) at (c .before .before .pre)
 
 enum-told-10 : tie.Need-enum-told-10
 enum-told-10 c = search needs
 
 put-rule-requires-2 : tie.Need-put-rule-requires-2
-put-rule-requires-2 c κs = rw (c .enum-told10 .given .1) at (c .before .before .before .before .pre)
+put-rule-requires-2 c κs = rw (c .enum-told10 .given .1) at (c .before .before .pre)
 
 enum-told-11 : tie.Need-enum-told-11
 enum-told-11 c = search needs
 
 put-rule-requires-3 : tie.Need-put-rule-requires-3
-put-rule-requires-3 c κs = rw (c .enum-told11 .given .1) at (c .before .before .before .before .pre)
+put-rule-requires-3 c κs = rw (c .enum-told11 .given .1) at (c .before .before .pre)
 
 enum-told-12 : tie.Need-enum-told-12
 enum-told-12 c = search needs
 
 put-move-requires : tie.Need-put-move-requires
-put-move-requires c κs = rw (c .enum-told12 .given .1) at (c .before .before .before .before .pre)
+put-move-requires c κs = rw (c .enum-told12 .given .1) at (c .before .before .pre)
 
 returns : tie.Need-returns
 returns c = rw (c .enum-told .given .1)
@@ -112,9 +103,6 @@ pub put-spec : {M : Type 1} → statement M
 put-spec =
     tie.close
     (tie.spec
-    array-read-a
-    array-read-b
-    array-read-c
     enum-told
     enum-told-2
     enum-told-3

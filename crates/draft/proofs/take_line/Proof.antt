@@ -1,23 +1,31 @@
 -- `draft::take_line` meets its contract. Assumes nothing.
-use mathlib.Core.Path.{sym, _∙_}
-use Rattle.limits.proofs.Passed.{fits}
-use Rattle.draft.specs.Lines.{countsOf}
-use Rattle.draft.proofs.Stores.{refused, went}
+use Rattle.draft.specs.Lines.{takeLine}
 use borrow.Author.Needs.{needs}
 use Rattle.draft.proofs.take_line.Statement.{statement}
 use Rattle.draft.proofs.take_line.Tie as tie
 
-refusal-of-requires : tie.Need-refusal-of-requires
-refusal-of-requires c κs = search needs
+array-read-put-word : tie.Need-array-read-put-word
+array-read-put-word c = search needs
+
+array-read-put-word-2 : tie.Need-array-read-put-word-2
+array-read-put-word-2 c = search needs
+
+array-read-put-word-3 : tie.Need-array-read-put-word-3
+array-read-put-word-3 c = search needs
+
+put-word-requires : tie.Need-put-word-requires
+put-word-requires c κs = search needs
 
 returns : tie.Need-returns
-returns c = refused _ _ (c .before .refusal-of .ensures) (c .if1 .taken)
-
-put-requires : tie.Need-put-requires
-put-requires c κs = let a = c .before .before .before .args in fits (countsOf (a .d)) (a .l .word) (a .l .numbers .at) (sym (c .before .refusal-of .ensures) ∙ c .if1 .left)
-
-returns-2 : tie.Need-returns-2
-returns-2 c = went _ _ (c .before .before .refusal-of .ensures) (c .before .if1 .left) (c .put .ensures)
+unfolding takeLine
+returns c = c .put-word .ensures
 
 pub take-line-spec : {M : Type 1} → statement M
-take-line-spec = tie.close (tie.spec refusal-of-requires returns put-requires returns-2)
+take-line-spec =
+    tie.close
+    (tie.spec
+    array-read-put-word
+    array-read-put-word-2
+    array-read-put-word-3
+    put-word-requires
+    returns)

@@ -3,15 +3,6 @@ use borrow.Author.Needs.{needs}
 use Rattle.limits.proofs.refusal_of.Statement.{statement}
 use Rattle.limits.proofs.refusal_of.Tie as tie
 
-array-read-a : tie.Need-array-read-a
-array-read-a c = search needs
-
-array-read-b : tie.Need-array-read-b
-array-read-b c = search needs
-
-array-read-c : tie.Need-array-read-c
-array-read-c c = search needs
-
 enum-told : tie.Need-enum-told
 enum-told c = search needs
 
@@ -97,24 +88,21 @@ returns-8 : tie.Need-returns-8
 returns-8 c = rw (c .before .enum-told8 .given .1) (c .move-refusal .ensures)
 
 returns-9 : tie.Need-returns-9
-returns-9 c = search needs
+returns-9 c = rw (c .enum-told9 .given .1)
 
 returns-10 : tie.Need-returns-10
-returns-10 c = search needs
+returns-10 c = rw (c .enum-told10 .given .1)
 
 returns-11 : tie.Need-returns-11
-returns-11 c = search needs
+returns-11 c = rw (c .enum-told11 .given .1)
 
 returns-12 : tie.Need-returns-12
-returns-12 c = search needs
+returns-12 c = rw (c .enum-told12 .given .1)
 
 pub refusal-of-spec : {M : Type 1} → statement M
 refusal-of-spec =
     tie.close
     (tie.spec
-    array-read-a
-    array-read-b
-    array-read-c
     enum-told
     size-refusal-requires
     enum-told-2
