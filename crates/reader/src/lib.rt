@@ -82,11 +82,11 @@ fn read_lines(text: &[u8]) -> ModelRead
         started: 0,
         model: m,
     };
-    let mut rest = text;
+    let mut left = text;
     let mut n: usize = 1;
-    let mut e = text::find(rest, b'\n');
-    while e < rest.len() {
-        let l = line::read_line(&rest[..e]);
+    let mut e = text::find(left, b'\n');
+    while e < left.len() {
+        let l = line::read_line(&left[..e]);
         let t = draft::take_line(d, l);
         let refusal = t.refusal;
         if refusal != 0 {
@@ -95,10 +95,10 @@ fn read_lines(text: &[u8]) -> ModelRead
         d = t.draft;
         n += 1;
         let b = e + 1;
-        rest = &rest[b..];
-        e = text::find(rest, b'\n');
+        left = &left[b..];
+        e = text::find(left, b'\n');
     }
-    if 0 < rest.len() {
+    if 0 < left.len() {
         return refused_with(Reading::Malformed(n));
     }
     if d.started == 0 {

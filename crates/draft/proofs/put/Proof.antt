@@ -1,64 +1,63 @@
 -- `draft::put` meets its contract: each word has its own case of `after`. Assumes nothing.
-use borrow.Author.Needs.{needs}
 use Rattle.draft.proofs.put.Statement.{statement}
 use Rattle.draft.proofs.put.Tie as tie
 
 enum-told : tie.Need-enum-told
-enum-told c = search needs
+enum-told c = c .match .keys1
 
 enum-told-2 : tie.Need-enum-told-2
-enum-told-2 c = search needs
+enum-told-2 c = c .match .keys2
 
 enum-told-3 : tie.Need-enum-told-3
-enum-told-3 c = search needs
+enum-told-3 c = c .match .keys3
 
 enum-told-4 : tie.Need-enum-told-4
-enum-told-4 c = search needs
+enum-told-4 c = c .match .keys4
 
 enum-told-5 : tie.Need-enum-told-5
-enum-told-5 c = search needs
+enum-told-5 c = c .match .keys5
 
 put-size-requires : tie.Need-put-size-requires
 put-size-requires c κs = let p = rw (c .enum-told5 .given .1) at (c .before .before .pre) in (p .1 .1, p .2 .1, p .3 .1)
 
 enum-told-6 : tie.Need-enum-told-6
-enum-told-6 c = search needs
+enum-told-6 c = c .match .keys6
 
 put-start-requires : tie.Need-put-start-requires
 put-start-requires c κs = let p = rw (c .enum-told6 .given .1) at (c .before .before .pre) in (p .1, p .2)
 
 enum-told-7 : tie.Need-enum-told-7
-enum-told-7 c = search needs
+enum-told-7 c = c .match .keys7
 
 put-final-requires : tie.Need-put-final-requires
-put-final-requires c κs = search needs
+put-final-requires c κs = tt
 
 enum-told-8 : tie.Need-enum-told-8
-enum-told-8 c = search needs
+enum-told-8 c = c .match .keys8
 
 put-event-requires : tie.Need-put-event-requires
-put-event-requires c κs = search needs
+put-event-requires c κs = tt
 
 enum-told-9 : tie.Need-enum-told-9
-enum-told-9 c = search needs
+enum-told-9 c = c .match .keys9
 
 put-rule-requires : tie.Need-put-rule-requires
 put-rule-requires c κs = rw (c .enum-told9 .given .1) at (c .before .before .pre)
 
 enum-told-10 : tie.Need-enum-told-10
-enum-told-10 c = search needs
+enum-told-10 c = c .match .keys10
 
 put-rule-requires-2 : tie.Need-put-rule-requires-2
 put-rule-requires-2 c κs = rw (c .enum-told10 .given .1) at (c .before .before .pre)
 
 enum-told-11 : tie.Need-enum-told-11
-enum-told-11 c = search needs
+enum-told-11 c = c .match .keys11
 
 put-rule-requires-3 : tie.Need-put-rule-requires-3
 put-rule-requires-3 c κs = rw (c .enum-told11 .given .1) at (c .before .before .pre)
 
 enum-told-12 : tie.Need-enum-told-12
-enum-told-12 c = search needs
+enum-told-12 c = c .match .keys12
 
 put-move-requires : tie.Need-put-move-requires
 put-move-requires c κs = rw (c .enum-told12 .given .1) at (c .before .before .pre)

@@ -2,12 +2,11 @@
 use borrow.Author.Tests.{eq-eqb, ne-eqb}
 use Rattle.limits.proofs.Passed.{fits}
 use Rattle.draft.specs.Lines.{countsOf}
-use borrow.Author.Needs.{needs}
 use Rattle.draft.proofs.put_word.Statement.{statement}
 use Rattle.draft.proofs.put_word.Tie as tie
 
 refusal-of-requires : tie.Need-refusal-of-requires
-refusal-of-requires c κs = search needs
+refusal-of-requires c κs = tt
 
 returns : tie.Need-returns
 returns c = rw (← c .before .refusal-of .ensures, ne-eqb _ _ (c .if1 .taken))

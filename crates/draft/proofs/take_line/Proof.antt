@@ -14,7 +14,7 @@ array-read-put-word-3 : tie.Need-array-read-put-word-3
 array-read-put-word-3 c = search needs
 
 put-word-requires : tie.Need-put-word-requires
-put-word-requires c κs = search needs
+put-word-requires c κs = tt
 
 returns : tie.Need-returns
 unfolding takeLine

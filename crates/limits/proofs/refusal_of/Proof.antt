@@ -1,67 +1,66 @@
 -- `limits::refusal_of` meets its contract: each word has its own case of `tests`. Assumes nothing.
-use borrow.Author.Needs.{needs}
 use Rattle.limits.proofs.refusal_of.Statement.{statement}
 use Rattle.limits.proofs.refusal_of.Tie as tie
 
 enum-told : tie.Need-enum-told
-enum-told c = search needs
+enum-told c = c .match .keys1
 
 size-refusal-requires : tie.Need-size-refusal-requires
-size-refusal-requires c κs = search needs
+size-refusal-requires c κs = tt
 
 enum-told-2 : tie.Need-enum-told-2
-enum-told-2 c = search needs
+enum-told-2 c = c .match .keys2
 
 start-refusal-requires : tie.Need-start-refusal-requires
-start-refusal-requires c κs = search needs
+start-refusal-requires c κs = tt
 
 enum-told-3 : tie.Need-enum-told-3
-enum-told-3 c = search needs
+enum-told-3 c = c .match .keys3
 
 final-refusal-requires : tie.Need-final-refusal-requires
-final-refusal-requires c κs = search needs
+final-refusal-requires c κs = tt
 
 enum-told-4 : tie.Need-enum-told-4
-enum-told-4 c = search needs
+enum-told-4 c = c .match .keys4
 
 event-refusal-requires : tie.Need-event-refusal-requires
-event-refusal-requires c κs = search needs
+event-refusal-requires c κs = tt
 
 enum-told-5 : tie.Need-enum-told-5
-enum-told-5 c = search needs
+enum-told-5 c = c .match .keys5
 
 rule-refusal-requires : tie.Need-rule-refusal-requires
-rule-refusal-requires c κs = search needs
+rule-refusal-requires c κs = tt
 
 enum-told-6 : tie.Need-enum-told-6
-enum-told-6 c = search needs
+enum-told-6 c = c .match .keys6
 
 rule-refusal-requires-2 : tie.Need-rule-refusal-requires-2
-rule-refusal-requires-2 c κs = search needs
+rule-refusal-requires-2 c κs = tt
 
 enum-told-7 : tie.Need-enum-told-7
-enum-told-7 c = search needs
+enum-told-7 c = c .match .keys7
 
 rule-refusal-requires-3 : tie.Need-rule-refusal-requires-3
-rule-refusal-requires-3 c κs = search needs
+rule-refusal-requires-3 c κs = tt
 
 enum-told-8 : tie.Need-enum-told-8
-enum-told-8 c = search needs
+enum-told-8 c = c .match .keys8
 
 move-refusal-requires : tie.Need-move-refusal-requires
-move-refusal-requires c κs = search needs
+move-refusal-requires c κs = tt
 
 enum-told-9 : tie.Need-enum-told-9
-enum-told-9 c = search needs
+enum-told-9 c = c .match .keys9
 
 enum-told-10 : tie.Need-enum-told-10
-enum-told-10 c = search needs
+enum-told-10 c = c .match .keys10
 
 enum-told-11 : tie.Need-enum-told-11
-enum-told-11 c = search needs
+enum-told-11 c = c .match .keys11
 
 enum-told-12 : tie.Need-enum-told-12
-enum-told-12 c = search needs
+enum-told-12 c = c .match .keys12
 
 returns : tie.Need-returns
 returns c = rw (c .before .enum-told .given .1) (c .size-refusal .ensures)

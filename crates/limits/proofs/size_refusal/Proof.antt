@@ -1,19 +1,18 @@
 -- `limits::size_refusal` meets its contract. Assumes nothing.
-use borrow.Author.Needs.{needs}
 use Rattle.limits.proofs.size_refusal.Statement.{statement}
 use Rattle.limits.proofs.size_refusal.Tie as tie
 
 uncounted-requires : tie.Need-uncounted-requires
-uncounted-requires c κs = search needs
+uncounted-requires c κs = tt
 
 uncounted-requires-2 : tie.Need-uncounted-requires-2
-uncounted-requires-2 c κs = search needs
+uncounted-requires-2 c κs = tt
 
 uncounted-requires-3 : tie.Need-uncounted-requires-3
-uncounted-requires-3 c κs = search needs
+uncounted-requires-3 c κs = tt
 
 first-of-requires : tie.Need-first-of-requires
-first-of-requires c κs = search needs
+first-of-requires c κs = tt
 
 returns : tie.Need-returns
 returns c = rw (← c .before .before .before .uncounted .ensures, ← c .before .before .uncounted2 .ensures, ← c .before .uncounted3 .ensures) (c .first-of .ensures)

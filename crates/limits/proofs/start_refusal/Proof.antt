@@ -10,10 +10,10 @@ cast-states : tie.Need-cast-states
 cast-states c = search needs
 
 either-requires : tie.Need-either-requires
-either-requires c κs = search needs
+either-requires c κs = tt
 
 first-of-requires : tie.Need-first-of-requires
-first-of-requires c κs = search needs
+first-of-requires c κs = tt
 
 returns : tie.Need-returns
 returns c = rw (← c .before .either .ensures) (c .first-of .ensures)

@@ -11,10 +11,10 @@ use Rattle.reader.proofs.read_lines.Statement.{statement}
 use Rattle.reader.proofs.read_lines.Tie as tie
 
 abbrev Inv-loop : tie.InvT-loop
-Inv-loop text d₀ rest₀ n₀ e₀ d rest n e = Turn text d rest n e
+Inv-loop text d₀ left₀ n₀ e₀ d left n e = Turn text d left n e
 
 abbrev μ-loop : tie.MeasureT-loop
-μ-loop text d₀ rest₀ n₀ e₀ d rest n e = length rest
+μ-loop text d₀ left₀ n₀ e₀ d left n e = length left
 
 no-model-requires : tie.Need-no-model-requires Inv-loop μ-loop
 no-model-requires c κs = tt
@@ -49,20 +49,20 @@ add-n c = let r = c .before .before .before .before .before .before .loop .inv .
 add-b : tie.Need-add-b Inv-loop μ-loop
 add-b c = omega arith
 
-sub-rest : tie.Need-sub-rest Inv-loop μ-loop
-sub-rest c = omega arith
+sub-left : tie.Need-sub-left Inv-loop μ-loop
+sub-left c = omega arith
 
-part-rest-start : tie.Need-part-rest-start Inv-loop μ-loop
-part-rest-start c = search needs
+part-left-start : tie.Need-part-left-start Inv-loop μ-loop
+part-left-start c = search needs
 
-part-rest-end : tie.Need-part-rest-end Inv-loop μ-loop
-part-rest-end c = search needs
+part-left-end : tie.Need-part-left-end Inv-loop μ-loop
+part-left-end c = search needs
 
 find-requires-2 : tie.Need-find-requires-2 Inv-loop μ-loop
 find-requires-2 c κs = tt
 
 loop-less : tie.Need-loop-less Inv-loop μ-loop
-loop-less c = let l = c .before .before .before .before .before .before .before .before .loop in after-shorter (l .e) (l .rest .now) (c .before .before .before .before .before .before .before .loop-test .taken)
+loop-less c = let l = c .before .before .before .before .before .before .before .before .loop in after-shorter (l .e) (l .left .now) (c .before .before .before .before .before .before .before .loop-test .taken)
 
 loop-again : tie.Need-loop-again Inv-loop μ-loop
 loop-again c = next-turn (c .before .before .before .before .before .before .before .before .loop .inv) (c .before .before .before .before .before .before .before .loop-test .taken) (c .before .before .before .before .before .read-line .ensures) (c .before .before .before .before .take-line .ensures) (c .before .before .before .if1 .left) (c .find2 .ensures)
@@ -99,9 +99,9 @@ read-lines-spec =
     returns
     add-n
     add-b
-    sub-rest
-    part-rest-start
-    part-rest-end
+    sub-left
+    part-left-start
+    part-left-end
     find-requires-2
     loop-less
     loop-again
