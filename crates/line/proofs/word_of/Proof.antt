@@ -1,5 +1,5 @@
 -- `line::word_of` meets its contract: each call passes on, where its word is not spelled, what the call before it found. Assumes nothing.
-use Rattle.line.specs.Line.{wordOf}
+use Rattle.line.proofs.Words.{found}
 use mathlib.Core.Path.{refl}
 use Rattle.line.proofs.word_of.Statement.{statement}
 use Rattle.line.proofs.word_of.Tie as tie
@@ -71,21 +71,20 @@ if-spelled-requires-11 : tie.Need-if-spelled-requires-11
 if-spelled-requires-11 c κs = tt
 
 returns : tie.Need-returns
-unfolding wordOf
 returns c =
-    rw (
-      c .if-spelled11 .ensures,
-      c .before .before .if-spelled10 .ensures,
-      c .before .before .before .before .if-spelled9 .ensures,
-      c .before .before .before .before .before .before .if-spelled8 .ensures,
-      c .before .before .before .before .before .before .before .before .if-spelled7 .ensures,
-      c .before .before .before .before .before .before .before .before .before .before .if-spelled6 .ensures,
-      c .before .before .before .before .before .before .before .before .before .before .before .before .if-spelled5 .ensures,
-      c .before .before .before .before .before .before .before .before .before .before .before .before .before .before .if-spelled4 .ensures,
-      c .before .before .before .before .before .before .before .before .before .before .before .before .before .before .before .before .if-spelled3 .ensures,
-      c .before .before .before .before .before .before .before .before .before .before .before .before .before .before .before .before .before .before .if-spelled2 .ensures,
-      c .before .before .before .before .before .before .before .before .before .before .before .before .before .before .before .before .before .before .before .before .if-spelled .ensures,
-    )
+    found
+    (c .before .before .before .before .before .before .before .before .before .before .before .before .before .before .before .before .before .before .before .before .before .before .before .args .s .now)
+    (c .before .before .before .before .before .before .before .before .before .before .before .before .before .before .before .before .before .before .before .before .if-spelled .ensures)
+    (c .before .before .before .before .before .before .before .before .before .before .before .before .before .before .before .before .before .before .if-spelled2 .ensures)
+    (c .before .before .before .before .before .before .before .before .before .before .before .before .before .before .before .before .if-spelled3 .ensures)
+    (c .before .before .before .before .before .before .before .before .before .before .before .before .before .before .if-spelled4 .ensures)
+    (c .before .before .before .before .before .before .before .before .before .before .before .before .if-spelled5 .ensures)
+    (c .before .before .before .before .before .before .before .before .before .before .if-spelled6 .ensures)
+    (c .before .before .before .before .before .before .before .before .if-spelled7 .ensures)
+    (c .before .before .before .before .before .before .if-spelled8 .ensures)
+    (c .before .before .before .before .if-spelled9 .ensures)
+    (c .before .before .if-spelled10 .ensures)
+    (c .if-spelled11 .ensures)
 
 pub word-of-spec : {M : Type 1} → statement M
 word-of-spec =
