@@ -13,12 +13,12 @@ use Rattle.product.specs.Lists.{upTo, all}
 use Rattle.product.proofs.Lists.{All-upTo, all-of, both}
 use Rattle.line.specs.Line.{lineOf}
 use Rattle.model.specs.Valid.{valid, ruleIn, moveIn}
-use Rattle.reader.specs.declared.Draft.{Draft}
+use Rattle.draft.specs.declared.Draft.{Draft}
 use Rattle.reader.specs.declared.ModelRead.{ModelRead}
 use Rattle.reader.specs.declared.Reading.the-variants.{Accepted, TooLong, Malformed, Misplaced, OutOfRange, TooMany}
 use Rattle.reader.specs.Reading.{empty, numbered, refused}
-use Rattle.reader.specs.Lines.{fresh, takeLine}
-use Rattle.reader.specs.Text.{finished, readFrom, readModel}
+use Rattle.draft.specs.Lines.{takeLine}
+use Rattle.reader.specs.Text.{fresh, finished, readFrom, readModel}
 use Rattle.reader.specs.Says.{Said, nothing, andLine, gathered, said, Says}
 use Rattle.reader.proofs.Good.{Good}
 use Rattle.reader.proofs.Steps.{Held, line-kept}

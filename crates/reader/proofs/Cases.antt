@@ -5,7 +5,7 @@ use Rattle.text.specs.Split.{first, later, sameBytes}
 use Rattle.text.specs.Number.{spelled, numberOf, numbersFrom}
 use Rattle.line.specs.Line.{wordOf, lineOf}
 use Rattle.reader.specs.Reading.{empty}
-use Rattle.reader.specs.Lines.{takeLine}
+use Rattle.draft.specs.Lines.{takeLine}
 use Rattle.reader.specs.Text.{readFrom, readModel}
 use Rattle.reader.specs.Says.{said}
 use Rattle.reader.specs.Cases.{textA, saidA, cases}

@@ -1,5 +1,4 @@
 -- Laws about the definitions of specs/. Assumes nothing.
-pub mod Tested
 pub mod Turns
 pub mod Rows
 pub mod Good

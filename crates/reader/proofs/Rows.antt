@@ -10,7 +10,7 @@ use lib.Seq.{getD-set-same, getD-set-other}
 use borrow.Author.Tests.{eq-eqb, ne-eqb, eqb-true, eqb-false}
 use Rattle.product.specs.Lists.{upTo, each, any}
 use Rattle.product.proofs.Lists.{over-suc}
-use Rattle.reader.specs.Lines.{threeAt, fourAt}
+use Rattle.draft.specs.Lines.{threeAt, fourAt}
 
 module _ (rows : List ℕ) (i a b c : ℕ) where
   pub length-three : length (threeAt rows i a b c) ≡ length rows

@@ -10,14 +10,13 @@ use Rattle.text.proofs.Split.{after, after-shorter, first-piece, later-after, n
 use Rattle.line.specs.declared.Line.{Line}
 use Rattle.line.specs.Line.{lineOf}
 use Rattle.model.specs.declared.Model.{Model}
-use Rattle.reader.specs.declared.Draft.{Draft}
-use Rattle.reader.specs.declared.Taken.{Taken}
+use Rattle.draft.specs.declared.Draft.{Draft}
+use Rattle.draft.specs.declared.Taken.{Taken}
+use Rattle.draft.specs.Lines.{takeLine}
 use Rattle.reader.specs.declared.ModelRead.{ModelRead}
 use Rattle.reader.specs.declared.Reading.the-variants.{Accepted, Malformed, Misplaced}
 use Rattle.reader.specs.Reading.{empty, numbered, refused}
-use Rattle.reader.specs.Lines.{Sized, fresh, takeLine}
-use Rattle.reader.specs.Text.{finished, readFrom}
-use Rattle.reader.proofs.Tested.{sized-next, sized-fresh}
+use Rattle.reader.specs.Text.{fresh, finished, readFrom}
 
 -- what is left to read
 abbrev pub readAll : ℕ → Draft → List ℕ → ModelRead
@@ -25,7 +24,6 @@ readAll n d l = readFrom n d (first 10 l) (later 10 l)
 
 pub record Turn (text : List ℕ) (d : Draft) (rest : List ℕ) (n e : ℕ) : Type 0 where
   pub found : e ≡ length (first 10 rest)
-  pub sized : Sized d
   pub room : n + length rest ≤ length text + 1
   pub left : readAll n d rest ≡ readAll 1 fresh text
 
@@ -43,7 +41,6 @@ module _ {text : List ℕ} {d : Draft} {l : List ℕ} {n e : ℕ} (i : Turn text
     next-turn z f =
         record {
           found = f;
-          sized = sized-next x q (i .sized) z;
           room = let r = i .room in omega (arith, after-shorter e l h);
           left = sym (ap (readFrom n d (first 10 l)) (later-after 10 l (i .found) h) ∙ rw (← taken, eq-eqb _ _ z)) ∙ i .left;
         }
@@ -73,7 +70,6 @@ pub first-turn : {text : List ℕ} {e : ℕ} {m : Model} → m ≡ empty → e �
 first-turn {text} p f =
     record {
       found = f;
-      sized = rw p sized-fresh;
       room = omega arith;
       left = ap (λ m. readAll 1 (record { started = 0; model = m }) text) p;
     }

@@ -46,23 +46,23 @@ addRule s ρ = record { sizes = s .sizes; starts = s .starts; finals = s .finals
 abbrev pub addMove : Said → declared.Move → Said
 addMove s μ = record { sizes = s .sizes; starts = s .starts; finals = s .finals; events = s .events; rules = s .rules; moves = s .moves ++ μ ∷ [] }
 
--- one more line, by its word and its numbers
-abbrev pub more : Said → Word → List ℕ → Said
-more s Size a = addSize s (getD a 0 0) (getD a 1 0) (getD a 2 0)
-more s Start a = addStart s (getD a 0 0) (getD a 1 0)
-more s Final a = addFinal s (getD a 0 0)
-more s Event a = addEvent s (getD a 0 0) (getD a 1 0)
-more s Exit a = addRule s (exit (getD a 0 0))
-more s Direct a = addRule s (direct (getD a 0 0) (getD a 1 0))
-more s Call a = addRule s (call (getD a 0 0) (getD a 1 0) (getD a 2 0))
-more s Move a = addMove s (record { source = getD a 0 0; event = getD a 1 0; target = getD a 2 0 })
-more s Safe a = s
-more s Head a = s
-more s Erase a = s
-more s Malformed a = s
+-- one more line, by its word and its first three numbers
+abbrev pub more : Said → Word → (a b c : ℕ) → Said
+more s Size a b c = addSize s a b c
+more s Start a b c = addStart s a b
+more s Final a b c = addFinal s a
+more s Event a b c = addEvent s a b
+more s Exit a b c = addRule s (exit a)
+more s Direct a b c = addRule s (direct a b)
+more s Call a b c = addRule s (call a b c)
+more s Move a b c = addMove s (record { source = a; event = b; target = c })
+more s Safe a b c = s
+more s Head a b c = s
+more s Erase a b c = s
+more s Malformed a b c = s
 
 abbrev pub andLine : Said → Line → Said
-andLine s l = more s (l .word) (l .numbers .at)
+andLine s l = more s (l .word) (getD (l .numbers .at) 0 0) (getD (l .numbers .at) 1 0) (getD (l .numbers .at) 2 0)
 
 -- the pieces between line feeds, of which all but the last are lines
 abbrev pub gathered : Said → List ℕ → List (List ℕ) → Said

@@ -5,11 +5,15 @@ use lib.Dec.{eqb, ltb}
 use lib.ListN.{length}
 use Rattle.text.specs.Split.{pick, first, later, split}
 use Rattle.line.specs.Line.{lineOf}
+use Rattle.draft.specs.declared.Draft.{Draft}
+use Rattle.draft.specs.Lines.{takeLine}
 use Rattle.reader.specs.declared.Reading.the-variants.{Accepted, TooLong, Malformed, Misplaced}
 use Rattle.reader.specs.declared.ModelRead.{ModelRead}
-use Rattle.reader.specs.declared.Draft.{Draft}
-use Rattle.reader.specs.Reading.{numbered, refused}
-use Rattle.reader.specs.Lines.{fresh, takeLine}
+use Rattle.reader.specs.Reading.{empty, numbered, refused}
+
+-- before the first line: not started, and no symbols, which says that there was no `size`
+abbrev pub fresh : Draft
+fresh = record { started = 0; model = empty }
 
 -- after the last line: an absent `start` is refused without a line
 abbrev pub finished : Draft → ModelRead

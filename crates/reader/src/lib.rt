@@ -4,13 +4,9 @@ ghost use Prim.Native.Nat.{ℕ, _≤_};
 ghost use lib.ListN.{length};
 ghost use Rattle.text.specs.Split.{first, later};
 ghost use Rattle.reader.specs.Reading.{empty, numbered, refused};
-ghost use Rattle.reader.specs.Lines.{fresh};
-ghost use Rattle.reader.specs.Text.{readFrom, readModel};
+ghost use Rattle.reader.specs.Text.{fresh, readFrom, readModel};
+use draft::Draft;
 use model::Model;
-
-mod lines; // what a line does to the model as far as it is read
-
-use lines::take_line;
 
 // The longest text that is read.
 const LONGEST: usize = 16384;
@@ -29,18 +25,6 @@ pub enum Reading {
 pub struct ModelRead {
     pub reading: Reading,
     pub model: Model,
-}
-
-// The model as far as it is read; `started` is 1 from the start line on. Before the size line there are no symbols.
-pub struct Draft {
-    pub started: u8,
-    pub model: Model,
-}
-
-// What a line does: a refusal's number, or 0 and the draft after it.
-pub struct Taken {
-    pub refusal: u8,
-    pub draft: Draft,
 }
 
 fn no_model() -> Model
@@ -98,12 +82,12 @@ fn read_lines(text: &[u8]) -> ModelRead
         started: 0,
         model: m,
     };
-    let mut rest = text;
+    let mut left = text;
     let mut n: usize = 1;
-    let mut e = text::find(rest, b'\n');
-    while e < rest.len() {
-        let l = line::read_line(&rest[..e]);
-        let t = take_line(d, l);
+    let mut e = text::find(left, b'\n');
+    while e < left.len() {
+        let l = line::read_line(&left[..e]);
+        let t = draft::take_line(d, l);
         let refusal = t.refusal;
         if refusal != 0 {
             return refused_with(numbered(refusal, n));
@@ -111,10 +95,10 @@ fn read_lines(text: &[u8]) -> ModelRead
         d = t.draft;
         n += 1;
         let b = e + 1;
-        rest = &rest[b..];
-        e = text::find(rest, b'\n');
+        left = &left[b..];
+        e = text::find(left, b'\n');
     }
-    if 0 < rest.len() {
+    if 0 < left.len() {
         return refused_with(Reading::Malformed(n));
     }
     if d.started == 0 {

@@ -12,14 +12,14 @@ use Rattle.line.specs.Line.{lineOf}
 use Rattle.model.specs.Valid.{valid}
 use Rattle.print.specs.Put.{Put}
 use Rattle.print.proofs.Puts.{as-put}
-use Rattle.reader.specs.declared.Draft.{Draft}
+use Rattle.draft.specs.declared.Draft.{Draft}
 use Rattle.reader.specs.declared.ModelRead.{ModelRead}
 use Rattle.reader.proofs.Accepted.{accepted-valid}
 use Rattle.reader.specs.declared.Reading.{Reading}
 use Rattle.reader.specs.declared.Reading.the-variants.{Accepted, TooLong, Malformed, Misplaced, OutOfRange, TooMany}
 use Rattle.reader.specs.Reading.{numbered, refused}
-use Rattle.reader.specs.Lines.{fresh, takeLine}
-use Rattle.reader.specs.Text.{readFrom, readModel}
+use Rattle.draft.specs.Lines.{takeLine}
+use Rattle.reader.specs.Text.{fresh, readFrom, readModel}
 use Rattle.report.specs.Output.{readingBytes, checkOutput}
 
 -- the line of a refusal

@@ -136,18 +136,18 @@ pub fn read_numbers(s: &[u8]) -> Numbers
     ensures { λ r. ⌜ r ≡ numbersOf (split 9 (now (s .entry))) ⌝ }
 {
     let mut n = no_numbers();
-    let mut rest = s;
-    let mut e = find(rest, b'\t');
-    while e < rest.len() {
-        n = push_field(n, &rest[..e]);
+    let mut fields = s;
+    let mut e = find(fields, b'\t');
+    while e < fields.len() {
+        n = push_field(n, &fields[..e]);
         if n.count == 0 {
             return n;
         }
         let b = e + 1;
-        rest = &rest[b..];
-        e = find(rest, b'\t');
+        fields = &fields[b..];
+        e = find(fields, b'\t');
     }
-    push_field(n, rest)
+    push_field(n, fields)
 }
 
 // The digits with one more in front of them.

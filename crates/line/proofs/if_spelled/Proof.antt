@@ -1,10 +1,9 @@
 -- `line::if_spelled` meets its contract. Assumes nothing.
-use borrow.Author.Needs.{needs}
 use Rattle.line.proofs.if_spelled.Statement.{statement}
 use Rattle.line.proofs.if_spelled.Tie as tie
 
 same-requires : tie.Need-same-requires
-same-requires c κs = search needs
+same-requires c κs = tt
 
 returns : tie.Need-returns
 returns c = rw (← c .before .same .ensures, c .if1 .taken)

@@ -5,21 +5,22 @@ use lib.Seq.{length-take-le}
 use Rattle.text.proofs.Split.{place-within, after-shorter}
 use Rattle.reader.specs.Reading.{refused}
 use Rattle.reader.proofs.Turns.{Turn, first-turn, refused-turn, next-turn, open-line, accepted, no-start}
+use native.Mathlib.Omega.{arith}
 use borrow.Author.Needs.{needs}
 use Rattle.reader.proofs.read_lines.Statement.{statement}
 use Rattle.reader.proofs.read_lines.Tie as tie
 
 abbrev Inv-loop : tie.InvT-loop
-Inv-loop text d₀ rest₀ n₀ e₀ d rest n e = Turn text d rest n e
+Inv-loop text d₀ left₀ n₀ e₀ d left n e = Turn text d left n e
 
 abbrev μ-loop : tie.MeasureT-loop
-μ-loop text d₀ rest₀ n₀ e₀ d rest n e = length rest
+μ-loop text d₀ left₀ n₀ e₀ d left n e = length left
 
 no-model-requires : tie.Need-no-model-requires Inv-loop μ-loop
-no-model-requires c κs = search needs
+no-model-requires c κs = tt
 
 find-requires : tie.Need-find-requires Inv-loop μ-loop
-find-requires c κs = search needs
+find-requires c κs = tt
 
 loop-holds : tie.Need-loop-holds Inv-loop μ-loop
 loop-holds c = first-turn (c .before .no-model .ensures) (c .find .ensures)
@@ -28,52 +29,52 @@ slice-aggregate-read-line : tie.Need-slice-aggregate-read-line Inv-loop μ-loop
 slice-aggregate-read-line c = sym (length-take-le _ _ (place-within 10 _ (c .before .before .loop .inv .found)))
 
 read-line-requires : tie.Need-read-line-requires Inv-loop μ-loop
-read-line-requires c κs = search needs
+read-line-requires c κs = tt
 
 take-line-requires : tie.Need-take-line-requires Inv-loop μ-loop
-take-line-requires c κs = c .before .before .before .loop .inv .sized
+take-line-requires c κs = tt
 
 numbered-requires : tie.Need-numbered-requires Inv-loop μ-loop
-numbered-requires c κs = search needs
+numbered-requires c κs = tt
 
 refused-with-requires : tie.Need-refused-with-requires Inv-loop μ-loop
-refused-with-requires c κs = search needs
+refused-with-requires c κs = tt
 
 returns : tie.Need-returns Inv-loop μ-loop
 returns c = c .refused-with .ensures ∙ ap refused (c .before .numbered .ensures) ∙ refused-turn (c .before .before .before .before .before .before .before .loop .inv) (c .before .before .before .before .before .before .loop-test .taken) (c .before .before .before .before .read-line .ensures) (c .before .before .before .take-line .ensures) (c .before .before .if1 .taken)
 
 add-n : tie.Need-add-n Inv-loop μ-loop
-add-n c = search needs
+add-n c = let r = c .before .before .before .before .before .before .loop .inv .room in omega arith
 
 add-b : tie.Need-add-b Inv-loop μ-loop
-add-b c = search needs
+add-b c = omega arith
 
-sub-rest : tie.Need-sub-rest Inv-loop μ-loop
-sub-rest c = search needs
+sub-left : tie.Need-sub-left Inv-loop μ-loop
+sub-left c = omega arith
 
-part-rest-start : tie.Need-part-rest-start Inv-loop μ-loop
-part-rest-start c = search needs
+part-left-start : tie.Need-part-left-start Inv-loop μ-loop
+part-left-start c = search needs
 
-part-rest-end : tie.Need-part-rest-end Inv-loop μ-loop
-part-rest-end c = search needs
+part-left-end : tie.Need-part-left-end Inv-loop μ-loop
+part-left-end c = search needs
 
 find-requires-2 : tie.Need-find-requires-2 Inv-loop μ-loop
-find-requires-2 c κs = search needs
+find-requires-2 c κs = tt
 
 loop-less : tie.Need-loop-less Inv-loop μ-loop
-loop-less c = let l = c .before .before .before .before .before .before .before .before .loop in after-shorter (l .e) (l .rest .now) (c .before .before .before .before .before .before .before .loop-test .taken)
+loop-less c = let l = c .before .before .before .before .before .before .before .before .loop in after-shorter (l .e) (l .left .now) (c .before .before .before .before .before .before .before .loop-test .taken)
 
 loop-again : tie.Need-loop-again Inv-loop μ-loop
 loop-again c = next-turn (c .before .before .before .before .before .before .before .before .loop .inv) (c .before .before .before .before .before .before .before .loop-test .taken) (c .before .before .before .before .before .read-line .ensures) (c .before .before .before .before .take-line .ensures) (c .before .before .before .if1 .left) (c .find2 .ensures)
 
 refused-with-requires-2 : tie.Need-refused-with-requires-2 Inv-loop μ-loop
-refused-with-requires-2 c κs = search needs
+refused-with-requires-2 c κs = tt
 
 returns-2 : tie.Need-returns-2 Inv-loop μ-loop
 returns-2 c = c .refused-with2 .ensures ∙ open-line (c .before .before .before .loop .inv) (c .before .before .loop-test .left) (c .before .if2 .taken)
 
 refused-with-requires-3 : tie.Need-refused-with-requires-3 Inv-loop μ-loop
-refused-with-requires-3 c κs = search needs
+refused-with-requires-3 c κs = tt
 
 returns-3 : tie.Need-returns-3 Inv-loop μ-loop
 returns-3 c = c .refused-with3 .ensures ∙ no-start (c .before .before .before .before .before .loop .inv) (c .before .before .before .before .loop-test .left) (c .before .before .before .if2 .left) (c .before .if3 .taken)
@@ -98,9 +99,9 @@ read-lines-spec =
     returns
     add-n
     add-b
-    sub-rest
-    part-rest-start
-    part-rest-end
+    sub-left
+    part-left-start
+    part-left-end
     find-requires-2
     loop-less
     loop-again

@@ -6,7 +6,7 @@ use Rattle.reader.proofs.read_model.Statement.{statement}
 use Rattle.reader.proofs.read_model.Tie as tie
 
 refused-with-requires : tie.Need-refused-with-requires
-refused-with-requires c κs = search needs
+refused-with-requires c κs = tt
 
 returns : tie.Need-returns
 unfolding readModel

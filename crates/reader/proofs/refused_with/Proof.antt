@@ -4,7 +4,7 @@ use Rattle.reader.proofs.refused_with.Statement.{statement}
 use Rattle.reader.proofs.refused_with.Tie as tie
 
 no-model-requires : tie.Need-no-model-requires
-no-model-requires c κs = search needs
+no-model-requires c κs = tt
 
 returns : tie.Need-returns
 returns c = rw (c .no-model .ensures)

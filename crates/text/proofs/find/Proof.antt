@@ -29,10 +29,10 @@ returns c =
     omega (arith, ap length (first-at (a .c) (a .s .now) (l .at) (omega arith) (c .if1 .taken)))
 
 add-at : tie.Need-add-at Inv-loop μ-loop
-add-at c = search needs
+add-at c = omega arith
 
 loop-less : tie.Need-loop-less Inv-loop μ-loop
-loop-less c = search needs
+loop-less c = omega arith
 
 loop-again : tie.Need-loop-again Inv-loop μ-loop
 loop-again c =

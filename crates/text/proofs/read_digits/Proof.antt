@@ -41,7 +41,7 @@ mul-v c =
     omega (arith, small (l .i) (l .v) (omega arith) (omega arith))
 
 cast-v : tie.Need-cast-v Inv-loop μ-loop
-cast-v c = search needs
+cast-v c = omega arith
 
 add-v : tie.Need-add-v Inv-loop μ-loop
 add-v c =
@@ -50,10 +50,10 @@ add-v c =
     omega (arith, small (l .i) (l .v) (omega arith) (omega arith))
 
 add-i : tie.Need-add-i Inv-loop μ-loop
-add-i c = search needs
+add-i c = omega arith
 
 loop-less : tie.Need-loop-less Inv-loop μ-loop
-loop-less c = search needs
+loop-less c = omega arith
 
 loop-again : tie.Need-loop-again Inv-loop μ-loop
 loop-again c =

@@ -2,6 +2,7 @@
 use mathlib.Core.Path.{sym}
 use lib.ListN.{length}
 use lib.Seq.{length-take-le}
+use native.Mathlib.Omega.{arith}
 use Rattle.text.proofs.Split.{place-within, after-shorter}
 use Rattle.text.proofs.Fields.{Turn, first-turn, turn-stop, turn-next, turn-last}
 use borrow.Author.Needs.{needs}
@@ -9,16 +10,16 @@ use Rattle.text.proofs.read_numbers.Statement.{statement}
 use Rattle.text.proofs.read_numbers.Tie as tie
 
 abbrev Inv-loop : tie.InvT-loop
-Inv-loop s n₀ rest₀ e₀ n rest e = Turn s n rest e
+Inv-loop s n₀ fields₀ e₀ n fields e = Turn s n fields e
 
 abbrev μ-loop : tie.MeasureT-loop
-μ-loop s n₀ rest₀ e₀ n rest e = length rest
+μ-loop s n₀ fields₀ e₀ n fields e = length fields
 
 no-numbers-requires : tie.Need-no-numbers-requires Inv-loop μ-loop
-no-numbers-requires c κs = search needs
+no-numbers-requires c κs = tt
 
 find-requires : tie.Need-find-requires Inv-loop μ-loop
-find-requires c κs = search needs
+find-requires c κs = tt
 
 loop-holds : tie.Need-loop-holds Inv-loop μ-loop
 loop-holds c = first-turn (c .before .no-numbers .ensures) (c .find .ensures)
@@ -27,36 +28,36 @@ slice-aggregate-push-field : tie.Need-slice-aggregate-push-field Inv-loop μ-loo
 slice-aggregate-push-field c = sym (length-take-le _ _ (place-within 9 _ (c .before .before .loop .inv .found)))
 
 push-field-requires : tie.Need-push-field-requires Inv-loop μ-loop
-push-field-requires c κs = search needs
+push-field-requires c κs = tt
 
 returns : tie.Need-returns Inv-loop μ-loop
 returns c = turn-stop (c .before .before .before .before .before .loop .inv) (c .before .before .before .before .loop-test .taken) (c .before .before .push-field .ensures) (c .if1 .taken)
 
 add-b : tie.Need-add-b Inv-loop μ-loop
-add-b c = search needs
+add-b c = omega arith
 
-sub-rest : tie.Need-sub-rest Inv-loop μ-loop
-sub-rest c = search needs
+sub-fields : tie.Need-sub-fields Inv-loop μ-loop
+sub-fields c = omega arith
 
-part-rest-start : tie.Need-part-rest-start Inv-loop μ-loop
-part-rest-start c = search needs
+part-fields-start : tie.Need-part-fields-start Inv-loop μ-loop
+part-fields-start c = search needs
 
-part-rest-end : tie.Need-part-rest-end Inv-loop μ-loop
-part-rest-end c = search needs
+part-fields-end : tie.Need-part-fields-end Inv-loop μ-loop
+part-fields-end c = search needs
 
 find-requires-2 : tie.Need-find-requires-2 Inv-loop μ-loop
-find-requires-2 c κs = search needs
+find-requires-2 c κs = tt
 
 loop-less : tie.Need-loop-less Inv-loop μ-loop
 loop-less c =
     let l = c .before .before .before .before .before .before .before .loop in
-    after-shorter (l .e) (l .rest .now) (c .before .before .before .before .before .before .loop-test .taken)
+    after-shorter (l .e) (l .fields .now) (c .before .before .before .before .before .before .loop-test .taken)
 
 loop-again : tie.Need-loop-again Inv-loop μ-loop
 loop-again c = turn-next (c .before .before .before .before .before .before .before .loop .inv) (c .before .before .before .before .before .before .loop-test .taken) (c .before .before .before .before .push-field .ensures) (c .before .before .if1 .left) (c .find2 .ensures)
 
 push-field-requires-2 : tie.Need-push-field-requires-2 Inv-loop μ-loop
-push-field-requires-2 c κs = search needs
+push-field-requires-2 c κs = tt
 
 returns-2 : tie.Need-returns-2 Inv-loop μ-loop
 returns-2 c = turn-last (c .before .before .loop .inv) (c .before .loop-test .left) (c .push-field2 .ensures)
@@ -74,9 +75,9 @@ read-numbers-spec =
     push-field-requires
     returns
     add-b
-    sub-rest
-    part-rest-start
-    part-rest-end
+    sub-fields
+    part-fields-start
+    part-fields-end
     find-requires-2
     loop-less
     loop-again

@@ -37,10 +37,10 @@ returns-2 c =
     sym (same-not (l .i) (a .a .now) (a .b .now) (omega arith) (omega arith) (c .if2 .taken)) ∙ l .inv .2
 
 add-i : tie.Need-add-i Inv-loop μ-loop
-add-i c = search needs
+add-i c = omega arith
 
 loop-less : tie.Need-loop-less Inv-loop μ-loop
-loop-less c = search needs
+loop-less c = omega arith
 
 loop-again : tie.Need-loop-again Inv-loop μ-loop
 loop-again c =

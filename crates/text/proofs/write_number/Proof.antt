@@ -2,7 +2,6 @@
 use mathlib.Core.Path.{refl}
 use Rattle.text.specs.Digits.{written}
 use Rattle.text.proofs.Decimals.{Turn, first-turn, open-place, turn-next, turn-last}
-use borrow.Author.Needs.{needs}
 use native.Mathlib.Omega.{arith}
 use Rattle.text.proofs.write_number.Statement.{statement}
 use Rattle.text.proofs.write_number.Tie as tie
@@ -18,25 +17,25 @@ unfolding written
 loop-holds c = first-turn (omega arith) refl
 
 cast-put-first : tie.Need-cast-put-first Inv-loop μ-loop
-cast-put-first c = search needs
+cast-put-first c = omega arith
 
 add-put-first : tie.Need-add-put-first Inv-loop μ-loop
-add-put-first c = search needs
+add-put-first c = omega arith
 
 put-first-requires : tie.Need-put-first-requires Inv-loop μ-loop
 put-first-requires c κs = open-place (c .before .loop .inv)
 
 loop-less : tie.Need-loop-less Inv-loop μ-loop
-loop-less c = search needs
+loop-less c = omega arith
 
 loop-again : tie.Need-loop-again Inv-loop μ-loop
 loop-again c = turn-next (c .before .before .loop .inv) (c .before .loop-test .taken) (c .put-first .ensures)
 
 cast-put-first-2 : tie.Need-cast-put-first-2 Inv-loop μ-loop
-cast-put-first-2 c = search needs
+cast-put-first-2 c = omega arith
 
 add-put-first-2 : tie.Need-add-put-first-2 Inv-loop μ-loop
-add-put-first-2 c = search needs
+add-put-first-2 c = omega arith
 
 put-first-requires-2 : tie.Need-put-first-requires-2 Inv-loop μ-loop
 put-first-requires-2 c κs = open-place (c .before .loop .inv)

@@ -1,0 +1,2 @@
+-- What a line does to the model as far as it is read. Assumes nothing.
+pub mod Lines
