@@ -1,4 +1,4 @@
--- The words of the output that are not those of a text. Assumes nothing.
+-- The words of a violation. Assumes nothing.
 use mathlib.Core.List.{List, [], _∷_}
 use Prim.Native.Nat.{ℕ}
 
@@ -13,7 +13,3 @@ stepWord = 115 ∷ 116 ∷ 101 ∷ 112 ∷ []
 -- "cut"
 abbrev pub cutWord : List ℕ
 cutWord = 99 ∷ 117 ∷ 116 ∷ []
-
--- "refused"
-abbrev pub refusedWord : List ℕ
-refusedWord = 114 ∷ 101 ∷ 102 ∷ 117 ∷ 115 ∷ 101 ∷ 100 ∷ []

@@ -1,14 +1,14 @@
--- `report::put_steps` meets its contract. Assumes nothing.
+-- `violation::put_steps` meets its contract. Assumes nothing.
 use mathlib.Core.Path.{_≡_}
 use Prim.Native.Nat.{_-_, _≤_}
 use Rattle.print.specs.Put.{Put}
-use Rattle.print.proofs.Puts.{none-put, then-put, as-put, put-length}
-use Rattle.report.specs.Output.{stepLines}
-use Rattle.report.proofs.Steps.{lines-none, lines-more}
+use Rattle.print.proofs.Puts.{none-put, as-put, put-length}
+use Rattle.violation.specs.Bytes.{stepLines}
+use Rattle.violation.proofs.Lines.{lines-none, more-put}
 use borrow.Author.Needs.{needs}
 use native.Mathlib.Omega.{arith}
-use Rattle.report.proofs.put_steps.Statement.{statement}
-use Rattle.report.proofs.put_steps.Tie as tie
+use Rattle.violation.proofs.put_steps.Statement.{statement}
+use Rattle.violation.proofs.put_steps.Tie as tie
 
 abbrev Inv-loop : tie.InvT-loop
 Inv-loop out₀ at rulerows moverows steps count next₀ i₀ out next i = (i ≤ count) × Put out₀ out at next (stepLines rulerows moverows steps i)
@@ -44,7 +44,7 @@ loop-less : tie.Need-loop-less Inv-loop μ-loop
 loop-less c = search needs
 
 loop-again : tie.Need-loop-again Inv-loop μ-loop
-loop-again c = let a = c .before .before .before .before .before .before .before .before .before .before .args in (search needs, as-put (lines-more (a .rulerows .now) (a .moverows .now) (a .steps .now) (c .before .before .before .before .before .before .loop .i)) (then-put (c .before .before .before .before .before .before .loop .inv .1) (c .before .before .put-step .ensures)))
+loop-again c = let a = c .before .before .before .before .before .before .before .before .before .before .args in (search needs, more-put (a .rulerows .now) (a .moverows .now) (a .steps .now) (c .before .before .before .before .before .before .loop .i) (c .before .before .before .before .before .before .loop .inv .1) (c .before .before .put-step .ensures))
 
 same-length : tie.Need-same-length Inv-loop μ-loop
 same-length c = put-length (c .before .loop .inv .1)
