@@ -1,5 +1,5 @@
 -- The header and the whole listing as they are put, and what the public call answers in each case. Assumes nothing.
-use mathlib.Core.Path.{_≡_}
+use mathlib.Core.Path.{_≡_, sym, _∙_}
 use mathlib.Core.Bool.{true, false}
 use mathlib.Core.List.{List, [], _∷_}
 use Prim.Native.Nat.{ℕ, zero, suc, _*_, _<_, _≤_}
@@ -13,13 +13,15 @@ use Rattle.product.proofs.Lists.{over-suc}
 use Rattle.line.specs.Line.{safe}
 use Rattle.table.specs.declared.Size.{Size}
 use Rattle.model.specs.declared.Model.{Model}
-use Rattle.model.specs.Valid.{valid}
 use Rattle.model.proofs.Valid.{valid-sizes}
 use Rattle.printing.specs.declared.Kind.the-variants.{Head, Triple}
+use Rattle.printing.specs.declared.Written.{Written}
 use Rattle.printing.specs.declared.Written.the-variants.{Invalid, Short, Bytes, Cut}
 use Rattle.printing.specs.Listing.{lineBytes, presentIn, cellsBytes, headerBytes, listingBytes}
-use Rattle.printing.specs.Writing.{Writes, Rows, Whole, bytesOf}
-use Rattle.listing.proofs.Tested.{heads-few, triples-few}
+use Rattle.printing.specs.Writing.{Writes, Rows, Whole, bytesOf, fitted}
+use Rattle.fitting.specs.declared.Fit.{Fit}
+use Rattle.fitting.specs.Fits.{fitOf, Fits}
+use Rattle.fitting.proofs.Tested.{heads-few, triples-few, is-invalid, is-short, is-well, tested-well}
 use Rattle.printing.proofs.Bytes.{line-short}
 use Rattle.print.specs.Put.{Put}
 use Rattle.print.proofs.Puts.{then-put, put-length}
@@ -77,38 +79,40 @@ module _ (G Q rounds : ℕ) (hs ts : List ℕ) where
   unfolding listingBytes
   listing-put x y z = then-put (then-put x y) z
 
--- the public call, case by case
-module _ (m : Model) (rounds : ℕ) (hs ts out : List ℕ) where
-  pub invalid-writes : valid m ≡ false → Writes m rounds hs ts out out Invalid
-  invalid-writes v = record { answers = rw v; leaves = rw v }
+-- the public call: a record or an array that is refused, by its number
+module _ (m : Model) (rounds : ℕ) (hs ts out : List ℕ) {f : Fit} (e : f ≡ fitOf m (length hs) (length ts)) where
+  pub invalid-writes : f .refusal ≡ 6 → Writes m rounds hs ts out out Invalid
+  invalid-writes n = record { answers = sym (is-invalid m (length hs) (length ts) e n _ _ _); leaves = sym (is-invalid m (length hs) (length ts) e n _ _ _) }
 
-  module _ (v : valid m ≡ true) where
-    pub short-heads : length hs < m .states * m .symbols → Writes m rounds hs ts out out Short
-    short-heads h = record { answers = rw (v, lt-ltb _ _ h); leaves = rw (v, lt-ltb _ _ h) }
+  pub short-writes : f .refusal ≡ 7 → Writes m rounds hs ts out out Short
+  short-writes n = record { answers = sym (is-short m (length hs) (length ts) e n _ _ _); leaves = sym (is-short m (length hs) (length ts) e n _ _ _) }
 
-    module _ (h : m .states * m .symbols ≤ length hs) where
-      pub short-triples : length ts < m .states * m .symbols * m .states → Writes m rounds hs ts out out Short
-      short-triples t = record { answers = rw (v, le-ltb _ _ h, lt-ltb _ _ t); leaves = rw (v, le-ltb _ _ h, lt-ltb _ _ t) }
+  -- else the listing is put
+  module _ (p : f .refusal ≡ 6 → ⊥) (q : f .refusal ≡ 7 → ⊥) where
+    fits : Fits m (length hs) (length ts)
+    fits = is-well m (length hs) (length ts) e p q
 
-      module _ (t : m .states * m .symbols * m .states ≤ length ts) where
-        pub whole : (size : Size) → size ≡ record { symbols = m .symbols; states = m .states } → Whole size hs ts
-        whole size e = let s = valid-sizes m (rw v tt) in rw e (record {
-          some-symbol = s .some-symbol;
-          symbols = s .symbols;
-          some-state = s .some-state;
-          states = s .states;
-          heads-there = h;
-          triples-there = t;
-        })
+    pub whole : Whole (record { symbols = m .symbols; states = m .states }) hs ts
+    whole = let w = fits in let s = valid-sizes m (w .valid-model) in record {
+      some-symbol = s .some-symbol;
+      symbols = s .symbols;
+      some-state = s .some-state;
+      states = s .states;
+      heads-there = w .heads-there;
+      triples-there = w .triples-there;
+    }
 
-        module _ {after : List ℕ} {n : ℕ} (x : Put out after 0 n (bytesOf m rounds hs ts)) where
-          pub all-writes : n ≤ length after → Writes m rounds hs ts out after (Bytes n)
-          all-writes l =
-              let e : length (bytesOf m rounds hs ts) ≡ n = omega (arith, x .place, put-length x) in
-              let k : length (bytesOf m rounds hs ts) ≤ length out = omega (arith, x .place, put-length x) in
-              record { answers = rw (v, le-ltb _ _ h, le-ltb _ _ t, le-ltb _ _ k, e); leaves = rw (v, le-ltb _ _ h, le-ltb _ _ t) (x .cells) }
+    module _ {after : List ℕ} {n : ℕ} (x : Put out after 0 n (bytesOf m rounds hs ts)) where
+      writes : {w : Written} → w ≡ fitted (length (bytesOf m rounds hs ts)) (length out) → Writes m rounds hs ts out after w
+      writes a = record { answers = a ∙ sym (tested-well m (length hs) (length ts) fits _ _ _); leaves = x .cells ∙ sym (tested-well m (length hs) (length ts) fits _ _ _) }
 
-          pub cut-writes : length after < n → Writes m rounds hs ts out after Cut
-          cut-writes l =
-              let k : length out < length (bytesOf m rounds hs ts) = omega (arith, x .place, put-length x) in
-              record { answers = rw (v, le-ltb _ _ h, le-ltb _ _ t, lt-ltb _ _ k); leaves = rw (v, le-ltb _ _ h, le-ltb _ _ t) (x .cells) }
+      pub all-writes : n ≤ length after → Writes m rounds hs ts out after (Bytes n)
+      all-writes l =
+          let k : length (bytesOf m rounds hs ts) ≡ n = omega (arith, x .place, put-length x) in
+          let h : length (bytesOf m rounds hs ts) ≤ length out = omega (arith, x .place, put-length x) in
+          writes (rw (le-ltb _ _ h, k))
+
+      pub cut-writes : length after < n → Writes m rounds hs ts out after Cut
+      cut-writes l =
+          let h : length out < length (bytesOf m rounds hs ts) = omega (arith, x .place, put-length x) in
+          writes (rw (lt-ltb _ _ h))

@@ -123,21 +123,17 @@ pub fn write_listing(
 ) -> Written
     ensures { λ r. ⌜ Writes m rounds (now (heads .entry)) (now (triples .entry)) (now (out .entry)) (now (out .exit)) r ⌝ }
 {
-    if !model::is_valid(m) {
+    let fit = fitting::measure(m, heads.len(), triples.len());
+    if fit.refusal == 6 {
         return Written::Invalid;
+    }
+    if fit.refusal == 7 {
+        return Written::Short;
     }
     let size = Size {
         symbols: m.symbols,
         states: m.states,
     };
-    let h = (size.states as usize) * (size.symbols as usize);
-    let t = h * (size.states as usize);
-    if heads.len() < h {
-        return Written::Short;
-    }
-    if triples.len() < t {
-        return Written::Short;
-    }
     let n = put_listing(out, size, rounds, heads, triples);
     if out.len() < n {
         return Written::Cut;

@@ -1,15 +1,11 @@
 -- What is put in each case of the answers. Assumes nothing.
-use mathlib.Core.Bool.{Bool, true, false}
+use mathlib.Core.Bool.{true, false}
 use mathlib.Core.List.{List}
-use mathlib.Core.Path.{_≡_, refl, ap, ap₂, sym, _∙_}
+use mathlib.Core.Path.{_≡_, ap, ap₂, sym, _∙_}
 use Prim.Native.Nat.{ℕ, _<_}
 use native.Mathlib.Omega.{arith}
-use lib.Dec.{T, ltb}
 use lib.ListN.{length, replicate}
-use Rattle.text.specs.Split.{pick}
-use Rattle.product.proofs.Lists.{T-true}
 use Rattle.model.specs.declared.Model.{Model}
-use Rattle.model.specs.Valid.{valid}
 use Rattle.reader.specs.Text.{readModel}
 use Rattle.refusal.specs.declared.Seen.{Seen}
 use Rattle.refusal.specs.Refusal.{unlessRefused, Seeing}
@@ -17,9 +13,9 @@ use Rattle.refusal.proofs.Reading.{accepted-put, refused-put}
 use Rattle.splitter.specs.Part.{listingOf, modelPart}
 use Rattle.fitting.specs.Fits.{Fits}
 use Rattle.listing.specs.declared.ListingRead.{ListingRead}
-use Rattle.listing.specs.Reading.{number, longest, linesOf, answerOf, headsLeft, triplesLeft, Reads}
-use Rattle.listing.specs.declared.ListingRead.the-variants.{Invalid, Short, TooLong}
-use Rattle.listing.proofs.Tested.{tested-well}
+use Rattle.listing.specs.Reading.{number, linesOf, headsLeft, triplesLeft, Reads}
+use Rattle.listing.specs.declared.ListingRead.the-variants.{Invalid, Short}
+use Rattle.fitting.proofs.Tested.{tested-well}
 use Rattle.recheck.specs.declared.Recheck.{Recheck}
 use Rattle.recheck.specs.declared.Recheck.the-variants as check
 use Rattle.recheck.specs.Recheck.{recheck}
@@ -55,11 +51,8 @@ case-line r e = omega (arith, r .small, ap lineIn e)
 
 -- the reading of a listing, of a valid model and into arrays that have room
 module _ (m : Model) (text : List ℕ) {hs ts hs′ ts′ : List ℕ} {x : ListingRead} (f : Fits m (length hs) (length ts)) (r : Reads m text hs ts hs′ ts′ x) where
-  well : {A : Type 0} (a b c : A) {y : A} → y ≡ Rattle.listing.specs.Tested.tested m hs ts a b c → y ≡ c
-  well a b c e = e ∙ tested-well m hs ts (T-true (valid m) (f .valid-model)) (f .heads-there) (f .triples-there) a b c
-
   read-is : x ≡ listingRead m text
-  read-is = well _ _ _ (r .answers)
+  read-is = r .answers ∙ tested-well m (length hs) (length ts) f _ _ _
 
   pub heard : {h t : ℕ} → Fits m h t → Heard m x h t
   heard g = record {
@@ -73,15 +66,9 @@ module _ (m : Model) (text : List ℕ) {hs ts hs′ ts′ : List ℕ} {x : Listi
   unfolding listingOutput
   heard-put y =
       as-put
-      (ap (λ x. listingBytes x (recheck m hs′ ts′)) read-is ∙ ap₂ (λ h t. listingBytes (listingRead m text) (recheck m h t)) (well _ _ _ (r .heads-left)) (well _ _ _ (r .triples-left))
-      ∙ go (ltb longest (length text)) (answerOf (linesOf m text)))
+      (ap (λ x. listingBytes x (recheck m hs′ ts′)) read-is
+      ∙ ap₂ (λ h t. listingBytes (listingRead m text) (recheck m h t)) (r .heads-left ∙ tested-well m (length hs) (length ts) f _ _ _) (r .triples-left ∙ tested-well m (length hs) (length ts) f _ _ _))
       y
-    where
-      go : (l : Bool) (a : ListingRead)
-          → listingBytes (pick l TooLong a) (recheck m (pick l hs (headsLeft m (linesOf m text) hs)) (pick l ts (triplesLeft m (linesOf m text) ts)))
-          ≡ listingBytes (pick l TooLong a) (recheck m (headsLeft m (linesOf m text) hs) (triplesLeft m (linesOf m text) ts))
-      go true a = refl
-      go false a = refl
 
 -- the model is read from one part of the text, and the listing is the other
 module _ (text : List ℕ) {part o p : List ℕ} {s : Seen} (k : part ≡ modelPart text) (x : Seeing part o p s) where

@@ -25,11 +25,11 @@ use Rattle.model.proofs.Valid.{valid-sizes}
 use Rattle.recheck.specs.declared.Recheck.{Recheck}
 use Rattle.recheck.specs.declared.Recheck.the-variants.{Accepted, Invalid, Short, NoStart, Violating, Open}
 use Rattle.recheck.specs.Recheck.{sizeOf, longEnough, inTable, answer, recheck}
-use Rattle.listing.specs.declared.State.{State}
+use Rattle.rows.specs.declared.State.{State}
 use Rattle.listing.specs.declared.ListingRead.{ListingRead}
 use Rattle.listing.specs.declared.ListingRead.the-variants as listing
-use Rattle.listing.specs.Lines.{startState, ends, stepOf, finished, readFrom}
-use Rattle.listing.specs.Reading.{number, longest, linesOf, refusedAs, answerOf}
+use Rattle.rows.specs.Lines.{longest, startState, ends, stepOf, finished, readFrom, readText}
+use Rattle.listing.specs.Reading.{number, linesOf, refusedAs, answerOf}
 use Rattle.refusal.proofs.Reading.{lines-few}
 use Rattle.fitting.specs.Fits.{Fits}
 use Rattle.rereport.specs.Heard.{lineIn}
@@ -50,33 +50,38 @@ line-within z n s l (k ∷ ls) =
     go h true = omega arith
     go h false = omega arith
 
-refused-line : (n line : ℕ) → lineIn (refusedAs n line) ≡ line
+refused-line : (n line : ℕ) → lineIn (refusedAs n line) ≤ line
 unfolding refusedAs
-refused-line n line = go (eqb n 2) (eqb n 3)
+refused-line n line = go (eqb n 1) (eqb n 2) (eqb n 3)
   where
-    go : (a b : Bool) → lineIn (pick a (listing.Malformed line) (pick b (listing.Misplaced line) (listing.OutOfRange line))) ≡ line
-    go true b = refl
-    go false true = refl
-    go false false = refl
+    go : (o a b : Bool) → lineIn (pick o listing.TooLong (pick a (listing.Malformed line) (pick b (listing.Misplaced line) (listing.OutOfRange line)))) ≤ line
+    go true a b = omega arith
+    go false true b = omega arith
+    go false false true = omega arith
+    go false false false = omega arith
+
+text-line : (z : Size) (text : List ℕ) → readText z text .line < 65536
+text-line z text = go (ltb longest (length text)) refl
+  where
+    go : (a : Bool) → ltb longest (length text) ≡ a → pick a (ends 1 0 startState) (readFrom z 1 startState (first 10 text) (later 10 text)) .line < 65536
+    go true e = omega arith
+    go false e = omega (arith, ltb-false longest (length text) e, line-within z 1 startState (first 10 text) (later 10 text), lines-few text)
 
 pub listing-line : (m : Model) (text : List ℕ) → lineIn (listingRead m text) < 65536
 unfolding answerOf
-listing-line m text = go (ltb longest (length text)) refl (eqb (linesOf m text .refusal) 0)
+listing-line m text = go (eqb (linesOf m text .refusal) 0)
   where
-    go : (a : Bool) → ltb longest (length text) ≡ a → (b : Bool)
-        → lineIn (pick a listing.TooLong (pick b (listing.Accepted (linesOf m text .state .rounds)) (refusedAs (linesOf m text .refusal) (linesOf m text .line)))) < 65536
-    go true e b = omega arith
-    go false e true = omega arith
-    go false e false =
-        omega (arith, ltb-false longest (length text) e, refused-line (linesOf m text .refusal) (linesOf m text .line), line-within (record { symbols = m .symbols; states = m .states }) 1 startState (first 10 text) (later 10 text), lines-few text)
+    go : (b : Bool) → lineIn (pick b (listing.Accepted (linesOf m text .state .rounds)) (refusedAs (linesOf m text .refusal) (linesOf m text .line))) < 65536
+    go true = omega arith
+    go false = omega (arith, refused-line (linesOf m text .refusal) (linesOf m text .line), text-line (record { symbols = m .symbols; states = m .states }) text)
 
 -- it is refused by a number of a text
 pub listing-number : (m : Model) (text : List ℕ) → number (listingRead m text) ≤ 4
 unfolding answerOf refusedAs
-listing-number m text = go (ltb longest (length text)) (eqb (linesOf m text .refusal) 0) (eqb (linesOf m text .refusal) 2) (eqb (linesOf m text .refusal) 3)
+listing-number m text = go (eqb (linesOf m text .refusal) 0) (eqb (linesOf m text .refusal) 1) (eqb (linesOf m text .refusal) 2) (eqb (linesOf m text .refusal) 3)
   where
     go : (a b c d : Bool)
-        → number (pick a listing.TooLong (pick b (listing.Accepted (linesOf m text .state .rounds)) (pick c (listing.Malformed (linesOf m text .line)) (pick d (listing.Misplaced (linesOf m text .line)) (listing.OutOfRange (linesOf m text .line)))))) ≤ 4
+        → number (pick a (listing.Accepted (linesOf m text .state .rounds)) (pick b listing.TooLong (pick c (listing.Malformed (linesOf m text .line)) (pick d (listing.Misplaced (linesOf m text .line)) (listing.OutOfRange (linesOf m text .line)))))) ≤ 4
     go true b c d = omega arith
     go false true c d = omega arith
     go false false true d = omega arith

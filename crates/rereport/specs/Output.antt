@@ -1,15 +1,13 @@
 -- What `pdrecheck` prints for a text: a refusal of the model or of the listing behind it, or the answer of the table check. Assumes nothing.
 use mathlib.Core.List.{List, [], _∷_}
 use Prim.Native.Nat.{ℕ}
-use lib.Dec.{ltb}
-use lib.ListN.{length, replicate}
-use Rattle.text.specs.Split.{pick}
+use lib.ListN.{replicate}
 use Rattle.model.specs.declared.Model.{Model}
 use Rattle.reader.specs.Text.{readModel}
 use Rattle.splitter.specs.Part.{listingOf, modelPart}
 use Rattle.listing.specs.declared.ListingRead.{ListingRead}
 use Rattle.listing.specs.declared.ListingRead.the-variants as listing
-use Rattle.listing.specs.Reading.{longest, linesOf, answerOf, headsLeft, triplesLeft}
+use Rattle.listing.specs.Reading.{linesOf, answerOf, headsLeft, triplesLeft}
 use Rattle.recheck.specs.declared.Recheck.{Recheck}
 use Rattle.recheck.specs.declared.Recheck.the-variants.{Accepted, Invalid, Short, NoStart, Violating, Open}
 use Rattle.recheck.specs.Recheck.{recheck}
@@ -35,7 +33,7 @@ checkBytes Short = []
 
 -- what the listing is read as
 abbrev pub listingRead : Model → List ℕ → ListingRead
-listingRead m text = pick (ltb longest (length text)) listing.TooLong (answerOf (linesOf m text))
+listingRead m text = answerOf (linesOf m text)
 
 -- an accepted listing is checked; it is none of the last two (proofs/Small), which have no line
 abbrev pub listingBytes : ListingRead → Recheck → List ℕ

@@ -1,5 +1,6 @@
 -- `printing::put_header` meets its contract. Assumes nothing.
-use Rattle.listing.proofs.Tested.{heads-few, triples-few}
+use Rattle.print.proofs.Puts.{put-length}
+use Rattle.fitting.proofs.Tested.{heads-few, triples-few}
 use Rattle.printing.proofs.Whole.{header-put}
 use native.Mathlib.Omega.{arith}
 use borrow.Author.Needs.{needs}
@@ -37,7 +38,7 @@ put-line-requires : tie.Need-put-line-requires
 put-line-requires c κs = search needs
 
 same-length : tie.Need-same-length
-same-length c = search needs
+same-length c = put-length (c .before .before .put-line .ensures)
 
 returns : tie.Need-returns
 returns c = header-put (c .before .before .before .before .before .before .before .before .before .before .before .before .before .before .args .size .symbols) (c .before .before .before .before .before .before .before .before .before .before .before .before .before .before .args .size .states) (c .before .before .before .before .before .before .before .before .before .before .before .before .before .before .args .rounds) _ _ (c .before .before .before .before .before .before .before .count .ensures) (c .before .before .before .before .before .before .count2 .ensures) (c .before .before .put-line .ensures)
