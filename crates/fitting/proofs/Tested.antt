@@ -1,8 +1,7 @@
 -- The tests of 6 and 7 case by case, and by the number that they gave. Assumes nothing.
 use mathlib.Core.Bool.{Bool, true, false}
 use mathlib.Core.Path.{_≡_, refl, sym, ap, _∙_}
-use Prim.Native.Nat.{ℕ, _*_, _<_, _≤_}
-use native.Mathlib.Nat.{mul-le-mul}
+use Prim.Native.Nat.{ℕ, _<_, _≤_}
 use native.Mathlib.Omega.{arith}
 use lib.Dec.{T, ltb}
 use borrow.Author.Tests.{lt-ltb, le-ltb, ltb-false}
@@ -15,12 +14,6 @@ use Rattle.fitting.specs.declared.Fit.{Fit}
 use Rattle.fitting.specs.Fits.{headsOf, triplesOf, tested, fitOf, Fits}
 
 -- how many cells a table has at the most
-pub heads-few : (G Q : ℕ) → G ≤ 32 → Q ≤ 8 → Q * G ≤ 256
-heads-few G Q g q = let x : Q * G ≤ 8 * 32 = mul-le-mul q g in omega arith
-
-pub triples-few : (G Q : ℕ) → G ≤ 32 → Q ≤ 8 → Q * G * Q ≤ 2048
-triples-few G Q g q = let x : Q * G * Q ≤ 256 * 8 = mul-le-mul (heads-few G Q g q) q in omega arith
-
 pub record Cells (m : Model) : Type 0 where
   pub heads : headsOf m ≤ 256
   pub triples : triplesOf m ≤ 2048

@@ -51,11 +51,17 @@ pub record Rows (size : Size) (cells : List ℕ) (n : ℕ) : Type 0 where
   pub there : n ≤ length cells
   pub few : n ≤ 2048
 
--- a table that is within the sizes, and in its arrays
-pub record Whole (size : Size) (heads triples : List ℕ) : Type 0 where
+-- so many heads and triples are there, and they are few
+pub record Counts (heads triples h t : ℕ) : Type 0 where
+  pub heads-there : h ≤ heads
+  pub heads-few : h ≤ 2048
+  pub triples-there : t ≤ triples
+  pub triples-few : t ≤ 2048
+
+-- they are the table of so many symbols and states
+pub record Whole (size : Size) (heads triples h t : ℕ) : Type 0 where
   pub some-symbol : 1 ≤ size .symbols
-  pub symbols : size .symbols ≤ 32
   pub some-state : 1 ≤ size .states
-  pub states : size .states ≤ 8
-  pub heads-there : size .states * size .symbols ≤ length heads
-  pub triples-there : size .states * size .symbols * size .states ≤ length triples
+  pub counts : Counts heads triples h t
+  pub heads-are : h ≡ size .states * size .symbols
+  pub triples-are : t ≡ size .states * size .symbols * size .states

@@ -172,9 +172,9 @@ module _ (m : Model) (v : valid m ≡ true) (rounds : ℕ) (r : rounds ≤ large
         arith,
         x,
         y,
-        header-short G Q rounds hs ts (omega arith) (c .heads) (c .triples),
-        length-append (headerBytes G Q rounds hs ts ++ cellsBytes Head G Q hs (headsOf m)) (cellsBytes Triple G Q ts (triplesOf m)),
-        length-append (headerBytes G Q rounds hs ts) (cellsBytes Head G Q hs (headsOf m)),
+        header-short rounds hs (headsOf m) ts (triplesOf m) (omega arith) (let a = c .heads in omega arith) (c .triples),
+        length-append (headerBytes rounds hs (headsOf m) ts (triplesOf m) ++ cellsBytes Head G Q hs (headsOf m)) (cellsBytes Triple G Q ts (triplesOf m)),
+        length-append (headerBytes rounds hs (headsOf m) ts (triplesOf m)) (cellsBytes Head G Q hs (headsOf m)),
       )
 
   abbrev begun-state : State
@@ -186,7 +186,7 @@ module _ (m : Model) (v : valid m ≡ true) (rounds : ℕ) (r : rounds ≤ large
   abbrev whole-state : State
   whole-state = after Triple heads-state ts (triplesOf m)
 
-  leads-header : Leads (sizeOf m) startState (headerBytes G Q rounds hs ts) begun-state
+  leads-header : Leads (sizeOf m) startState (headerBytes rounds hs (headsOf m) ts (triplesOf m)) begun-state
   unfolding headerBytes wordOf sameBytes without stepOf
   leads-header =
       let c = cells-fit m v in
