@@ -1,72 +1,70 @@
 -- What the public call answers and leaves, case by case. Assumes nothing.
 use mathlib.Core.Path.{_≡_, sym, ap, _∙_}
-use mathlib.Core.Bool.{true, false}
 use mathlib.Core.List.{List}
-use Prim.Native.Nat.{ℕ, _<_, _≤_}
-use lib.Dec.{ltb}
+use Prim.Native.Nat.{ℕ, _≤_}
+use native.Mathlib.Omega.{arith}
 use lib.ListN.{length}
-use borrow.Author.Tests.{lt-ltb, le-ltb, eq-eqb, ne-eqb}
-use Rattle.text.specs.Split.{pick}
+use borrow.Author.Tests.{eq-eqb, ne-eqb}
 use Rattle.model.specs.declared.Model.{Model}
-use Rattle.model.specs.Valid.{valid}
-use Rattle.listing.specs.Tested.{headsOf, triplesOf}
-use Rattle.listing.specs.Reading.{longest, linesOf, refusedAs, answerOf, filled, headsLeft, triplesLeft, Reads}
-use Rattle.listing.specs.declared.Ended.{Ended}
+use Rattle.fitting.specs.declared.Fit.{Fit}
+use Rattle.fitting.specs.Fits.{headsOf, triplesOf, fitOf, Fits}
+use Rattle.fitting.proofs.Tested.{is-invalid, is-short, is-well, heads-are, triples-are, tested-well}
+use Rattle.rows.specs.declared.Ended.{Ended}
+use Rattle.listing.specs.Reading.{linesOf, refusedAs, answerOf, filled, headsLeft, triplesLeft, Reads}
 use Rattle.listing.specs.declared.ListingRead.{ListingRead}
-use Rattle.listing.specs.declared.ListingRead.the-variants.{Accepted, Invalid, Short, TooLong}
-use Rattle.listing.proofs.Tested.{tested-invalid, tested-heads, tested-triples, tested-well}
+use Rattle.listing.specs.declared.ListingRead.the-variants.{Accepted, Invalid, Short}
 
-module _ (m : Model) (text hs ts : List ℕ) where
-  pub invalid-reads : valid m ≡ false → Reads m text hs ts hs ts Invalid
-  invalid-reads v = record {
-    answers = sym (tested-invalid m hs ts v _ _ _);
-    heads-left = sym (tested-invalid m hs ts v _ _ _);
-    triples-left = sym (tested-invalid m hs ts v _ _ _);
+-- a record or an array that is refused, by its number
+module _ (m : Model) (text hs ts : List ℕ) {f : Fit} (e : f ≡ fitOf m (length hs) (length ts)) where
+  pub invalid-reads : f .refusal ≡ 6 → Reads m text hs ts hs ts Invalid
+  invalid-reads n = record {
+    answers = sym (is-invalid m (length hs) (length ts) e n _ _ _);
+    heads-left = sym (is-invalid m (length hs) (length ts) e n _ _ _);
+    triples-left = sym (is-invalid m (length hs) (length ts) e n _ _ _);
   }
 
-  module _ (v : valid m ≡ true) where
-    pub short-heads : length hs < headsOf m → Reads m text hs ts hs ts Short
-    short-heads h = record {
-      answers = sym (tested-heads m hs ts v h _ _ _);
-      heads-left = sym (tested-heads m hs ts v h _ _ _);
-      triples-left = sym (tested-heads m hs ts v h _ _ _);
-    }
+  pub short-reads : f .refusal ≡ 7 → Reads m text hs ts hs ts Short
+  short-reads n = record {
+    answers = sym (is-short m (length hs) (length ts) e n _ _ _);
+    heads-left = sym (is-short m (length hs) (length ts) e n _ _ _);
+    triples-left = sym (is-short m (length hs) (length ts) e n _ _ _);
+  }
 
-    module _ (h : headsOf m ≤ length hs) where
-      pub short-triples : length ts < triplesOf m → Reads m text hs ts hs ts Short
-      short-triples t = record {
-        answers = sym (tested-triples m hs ts v h t _ _ _);
-        heads-left = sym (tested-triples m hs ts v h t _ _ _);
-        triples-left = sym (tested-triples m hs ts v h t _ _ _);
-      }
+-- else the text is read
+module _ (m : Model) (text hs ts : List ℕ) (f : Fits m (length hs) (length ts)) {e : Ended} (is : e ≡ linesOf m text) where
+  read : {hs′ ts′ : List ℕ} {r : ListingRead} → r ≡ answerOf e → hs′ ≡ headsLeft m e hs → ts′ ≡ triplesLeft m e ts → Reads m text hs ts hs′ ts′ r
+  read a b c = record {
+    answers = a ∙ ap answerOf is ∙ sym (tested-well m (length hs) (length ts) f _ _ _);
+    heads-left = b ∙ ap (λ x. headsLeft m x hs) is ∙ sym (tested-well m (length hs) (length ts) f _ _ _);
+    triples-left = c ∙ ap (λ x. triplesLeft m x ts) is ∙ sym (tested-well m (length hs) (length ts) f _ _ _);
+  }
 
-      module _ (t : triplesOf m ≤ length ts) where
-        -- by the length of the text
-        sized : {hs′ ts′ : List ℕ} {r : ListingRead}
-            → r ≡ pick (ltb longest (length text)) TooLong (answerOf (linesOf m text))
-            → hs′ ≡ pick (ltb longest (length text)) hs (headsLeft m (linesOf m text) hs)
-            → ts′ ≡ pick (ltb longest (length text)) ts (triplesLeft m (linesOf m text) ts) → Reads m text hs ts hs′ ts′ r
-        sized a b c = record {
-          answers = a ∙ sym (tested-well m hs ts v h t _ _ _);
-          heads-left = b ∙ sym (tested-well m hs ts v h t _ _ _);
-          triples-left = c ∙ sym (tested-well m hs ts v h t _ _ _);
-        }
+  pub refused-reads : (e .refusal ≡ 0 → ⊥) → {r : ListingRead} → r ≡ refusedAs (e .refusal) (e .line) → Reads m text hs ts hs ts r
+  unfolding answerOf headsLeft triplesLeft
+  refused-reads z p = read (p ∙ rw (ne-eqb _ _ z)) (rw (ne-eqb _ _ z)) (rw (ne-eqb _ _ z))
 
-        pub long-reads : longest < length text → Reads m text hs ts hs ts TooLong
-        long-reads l = sized (rw (lt-ltb _ _ l)) (rw (lt-ltb _ _ l)) (rw (lt-ltb _ _ l))
+  pub accepted-reads : e .refusal ≡ 0 → {hs′ ts′ : List ℕ} → hs′ ≡ filled (headsOf m) (e .state .headcells) hs → ts′ ≡ filled (triplesOf m) (e .state .triplecells) ts
+      → Reads m text hs ts hs′ ts′ (Accepted (e .state .rounds))
+  unfolding answerOf headsLeft triplesLeft
+  accepted-reads z p q = read (rw (eq-eqb _ _ z)) (p ∙ rw (eq-eqb _ _ z)) (q ∙ rw (eq-eqb _ _ z))
 
-        module _ (l : length text ≤ longest) {e : Ended} (is : e ≡ linesOf m text) where
-          read : {hs′ ts′ : List ℕ} {r : ListingRead} → r ≡ answerOf e → hs′ ≡ headsLeft m e hs → ts′ ≡ triplesLeft m e ts → Reads m text hs ts hs′ ts′ r
-          read a b c = sized
-              (a ∙ ap answerOf is ∙ rw (le-ltb _ _ l))
-              (b ∙ ap (λ x. headsLeft m x hs) is ∙ rw (le-ltb _ _ l))
-              (c ∙ ap (λ x. triplesLeft m x ts) is ∙ rw (le-ltb _ _ l))
+-- by the numbers of cells that were measured
+module _ (m : Model) (text hs ts : List ℕ) {f : Fit} (k : f ≡ fitOf m (length hs) (length ts)) (p : f .refusal ≡ 6 → ⊥) (q : f .refusal ≡ 7 → ⊥) where
+  fits : Fits m (length hs) (length ts)
+  fits = is-well m (length hs) (length ts) k p q
 
-          pub refused-reads : (e .refusal ≡ 0 → ⊥) → {r : ListingRead} → r ≡ refusedAs (e .refusal) (e .line) → Reads m text hs ts hs ts r
-          unfolding answerOf headsLeft triplesLeft
-          refused-reads z p = read (p ∙ rw (ne-eqb _ _ z)) (rw (ne-eqb _ _ z)) (rw (ne-eqb _ _ z))
+  pub heads-within : f .heads ≤ length hs
+  heads-within = let w = fits in omega (arith, heads-are m (length hs) (length ts) k p q, w .heads-there)
 
-          pub accepted-reads : e .refusal ≡ 0 → {hs′ ts′ : List ℕ} → hs′ ≡ filled (headsOf m) (e .state .headcells) hs → ts′ ≡ filled (triplesOf m) (e .state .triplecells) ts
-              → Reads m text hs ts hs′ ts′ (Accepted (e .state .rounds))
-          unfolding answerOf headsLeft triplesLeft
-          accepted-reads z p q = read (rw (eq-eqb _ _ z)) (p ∙ rw (eq-eqb _ _ z)) (q ∙ rw (eq-eqb _ _ z))
+  pub triples-within : f .triples ≤ length ts
+  triples-within = let w = fits in omega (arith, triples-are m (length hs) (length ts) k p q, w .triples-there)
+
+  module _ {e : Ended} (is : e ≡ linesOf m text) where
+    pub refused-after : (e .refusal ≡ 0 → ⊥) → {r : ListingRead} → r ≡ refusedAs (e .refusal) (e .line) → Reads m text hs ts hs ts r
+    refused-after = refused-reads m text hs ts fits is
+
+    pub accepted-after : e .refusal ≡ 0 → {hs′ ts′ : List ℕ} → hs′ ≡ filled (f .heads) (e .state .headcells) hs → ts′ ≡ filled (f .triples) (e .state .triplecells) ts
+        → Reads m text hs ts hs′ ts′ (Accepted (e .state .rounds))
+    accepted-after z a b =
+        accepted-reads m text hs ts fits is z (a ∙ ap (λ n. filled n (e .state .headcells) hs) (heads-are m (length hs) (length ts) k p q))
+        (b ∙ ap (λ n. filled n (e .state .triplecells) ts) (triples-are m (length hs) (length ts) k p q))

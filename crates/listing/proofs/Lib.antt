@@ -1,5 +1,3 @@
 -- Laws of reading a listing.
-pub mod Steps
-pub mod Lines
-pub mod Tested
+pub mod Filled
 pub mod Cases

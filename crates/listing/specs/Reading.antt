@@ -2,14 +2,14 @@
 use mathlib.Core.List.{List}
 use mathlib.Core.Path.{_≡_}
 use Prim.Native.Nat.{ℕ, zero, suc}
-use lib.Dec.{eqb, ltb}
+use lib.Dec.{eqb}
 use lib.ListN.{length, getD, set}
 use Rattle.text.specs.Split.{pick}
 use Rattle.table.specs.declared.Size.{Size}
 use Rattle.model.specs.declared.Model.{Model}
-use Rattle.listing.specs.Tested.{headsOf, triplesOf, tested}
-use Rattle.listing.specs.Lines.{startState, readLines}
-use Rattle.listing.specs.declared.Ended.{Ended}
+use Rattle.fitting.specs.Fits.{headsOf, triplesOf, tested}
+use Rattle.rows.specs.Lines.{readText}
+use Rattle.rows.specs.declared.Ended.{Ended}
 use Rattle.listing.specs.declared.ListingRead.{ListingRead}
 use Rattle.listing.specs.declared.ListingRead.the-variants.{Accepted, Invalid, Short, TooLong, Malformed, Misplaced, OutOfRange}
 
@@ -32,20 +32,16 @@ value (Malformed line) = line
 value (Misplaced line) = line
 value (OutOfRange line) = line
 
--- the most bytes of a listing
-abbrev pub longest : ℕ
-longest = 45056
-
 abbrev pub sizeOf : Model → Size
 sizeOf m = record { symbols = m .symbols; states = m .states }
 
--- the lines of a listing read from the first on
+-- the lines of a listing
 abbrev pub linesOf : Model → List ℕ → Ended
-linesOf m text = readLines (sizeOf m) 1 startState text
+linesOf m text = readText (sizeOf m) text
 
 -- by the number of the refusal
 unfoldable pub refusedAs : ℕ → ℕ → ListingRead
-refusedAs n line = pick (eqb n 2) (Malformed line) (pick (eqb n 3) (Misplaced line) (OutOfRange line))
+refusedAs n line = pick (eqb n 1) TooLong (pick (eqb n 2) (Malformed line) (pick (eqb n 3) (Misplaced line) (OutOfRange line)))
 
 unfoldable pub answerOf : Ended → ListingRead
 answerOf r = pick (eqb (r .refusal) 0) (Accepted (r .state .rounds)) (refusedAs (r .refusal) (r .line))
@@ -62,8 +58,8 @@ headsLeft m r hs = pick (eqb (r .refusal) 0) (filled (headsOf m) (r .state .head
 unfoldable pub triplesLeft : Model → Ended → List ℕ → List ℕ
 triplesLeft m r ts = pick (eqb (r .refusal) 0) (filled (triplesOf m) (r .state .triplecells) ts) ts
 
--- the answer, and the two arrays afterwards: tests 6, 7, 1, then the lines
+-- the answer, and the two arrays afterwards: tests 6 and 7, then the text
 pub record Reads (m : Model) (text heads triples headsAfter triplesAfter : List ℕ) (answer : ListingRead) : Type 0 where
-  pub answers : answer ≡ tested m heads triples Invalid Short (pick (ltb longest (length text)) TooLong (answerOf (linesOf m text)))
-  pub heads-left : headsAfter ≡ tested m heads triples heads heads (pick (ltb longest (length text)) heads (headsLeft m (linesOf m text) heads))
-  pub triples-left : triplesAfter ≡ tested m heads triples triples triples (pick (ltb longest (length text)) triples (triplesLeft m (linesOf m text) triples))
+  pub answers : answer ≡ tested m (length heads) (length triples) Invalid Short (answerOf (linesOf m text))
+  pub heads-left : headsAfter ≡ tested m (length heads) (length triples) heads heads (headsLeft m (linesOf m text) heads)
+  pub triples-left : triplesAfter ≡ tested m (length heads) (length triples) triples triples (triplesLeft m (linesOf m text) triples)

@@ -1,8 +1,8 @@
 -- Bytes put one after another, and the parts of a line as they grow. Assumes nothing.
 use mathlib.Core.List.{List, [], _∷_, _++_, append-nil}
 use mathlib.Core.Logic.{_⊎_, inl, inr, ⊎-elim}
-use mathlib.Core.Path.{_≡_, refl, sym, ap, _∙_}
-use Prim.Native.Nat.{ℕ, suc, _+_, _-_, _<_, _≤_, min}
+use mathlib.Core.Path.{_≡_, refl, sym, ap, ap₂, _∙_}
+use Prim.Native.Nat.{ℕ, zero, suc, _+_, _-_, _<_, _≤_, min}
 use native.Mathlib.Decide.{decLe}
 use native.Mathlib.Nat.{add-zero}
 use native.Mathlib.Numerals.{add-one}
@@ -12,8 +12,8 @@ use lib.Seq.{sets, length-sets, set-out, take-suc}
 use Rattle.text.specs.Digits.{decimal, written, digitsOf}
 use Rattle.text.specs.declared.Digits.{Digits}
 use Rattle.text.proofs.Back.{digits-part}
-use Rattle.product.specs.Lists.{over}
-use Rattle.product.proofs.Lists.{over-append}
+use Rattle.product.specs.Lists.{upTo, over}
+use Rattle.product.proofs.Lists.{over-append, over-suc}
 use Rattle.print.specs.Bytes.{fieldBytes, lineBytes, namedBytes}
 use Rattle.print.specs.Put.{Put}
 
@@ -32,6 +32,11 @@ le-or-lt a b = split (decLe a b)
     split : Dec (a ≤ b) → (a ≤ b) ⊎ (b < a)
     split (yes h) = inl h
     split (no h) = inr (omega arith)
+
+-- lists gathered from the same elements
+pub over-same : {B : Type 0} (n : ℕ) (f g : ℕ → List B) → ((i : ℕ) → i < n → f i ≡ g i) → over (upTo n) f ≡ over (upTo n) g
+over-same zero f g h = refl
+over-same (suc n) f g h = over-suc n f ∙ ap₂ _++_ (over-same n f g (λ i l. h i (omega arith))) (h n (omega arith)) ∙ sym (over-suc n g)
 
 -- nothing is put yet
 pub none-put : (o : List ℕ) (at : ℕ) {next : ℕ} → next ≡ min at (length o + 1) → Put o o at next []

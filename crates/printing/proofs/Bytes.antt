@@ -16,7 +16,7 @@ use Rattle.product.proofs.Lists.{over-suc}
 use Rattle.printing.specs.Listing.{lineBytes, presentIn, cellBytes, ifPresent, cellsBytes}
 use Rattle.printing.specs.declared.Kind.{Kind}
 use Rattle.print.specs.Put.{placeIn, Put}
-use Rattle.print.proofs.Puts.{none-put}
+use Rattle.print.proofs.Puts.{none-put, then-put, as-put}
 
 -- one cell more
 module _ (cells : List ℕ) (i : ℕ) where
@@ -42,6 +42,10 @@ pub cells-more : (kind : Kind) (G Q : ℕ) (cells : List ℕ) (i : ℕ)
     → cellsBytes kind G Q cells i ++ ifPresent kind G Q i (getD cells i 0) ≡ cellsBytes kind G Q cells (i + 1)
 unfolding cellsBytes
 cells-more kind G Q cells i = rw add-one (sym (over-suc i (λ i. ifPresent kind G Q i (getD cells i 0))))
+
+pub cells-put : (kind : Kind) (G Q : ℕ) (cells : List ℕ) (i : ℕ) {o p q : List ℕ} {a b c : ℕ} → Put o p a b (cellsBytes kind G Q cells i) → Put p q b c (ifPresent kind G Q i (getD cells i 0))
+    → Put o q a c (cellsBytes kind G Q cells (i + 1))
+cells-put kind G Q cells i x y = as-put (cells-more kind G Q cells i) (then-put x y)
 
 pub cells-none : (kind : Kind) (G Q : ℕ) (cells : List ℕ) → [] ≡ cellsBytes kind G Q cells 0
 unfolding cellsBytes

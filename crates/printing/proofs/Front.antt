@@ -1,21 +1,16 @@
 -- A listing looks at the cells of the table alone. Assumes nothing.
 use mathlib.Core.List.{List, [], _∷_, _++_}
-use mathlib.Core.Path.{_≡_, refl, ap, ap₂, sym, _∙_}
-use Prim.Native.Nat.{ℕ, zero, suc, _*_, _<_}
+use mathlib.Core.Path.{_≡_, ap, sym, _∙_}
+use Prim.Native.Nat.{ℕ, _*_, _<_}
 use native.Mathlib.Omega.{arith}
 use lib.Dec.{eqb}
 use lib.ListN.{length, getD, List·getD-append}
 use Rattle.text.specs.Split.{pick}
 use Rattle.product.specs.Lists.{upTo, over}
 use Rattle.product.specs.Table.{absent}
-use Rattle.product.proofs.Lists.{over-suc}
+use Rattle.print.proofs.Puts.{over-same}
 use Rattle.printing.specs.declared.Kind.{Kind}
 use Rattle.printing.specs.Listing.{ifPresent, presentIn, cellsBytes, headerBytes, listingBytes}
-
--- lists gathered from the same elements
-pub over-same : {B : Type 0} (n : ℕ) (f g : ℕ → List B) → ((i : ℕ) → i < n → f i ≡ g i) → over (upTo n) f ≡ over (upTo n) g
-over-same zero f g h = refl
-over-same (suc n) f g h = over-suc n f ∙ ap₂ _++_ (over-same n f g (λ i l. h i (omega arith))) (h n (omega arith)) ∙ sym (over-suc n g)
 
 module _ (a b : List ℕ) (n : ℕ) (e : length a ≡ n) where
   front : (i : ℕ) → i < n → getD (a ++ b) i 0 ≡ getD a i 0

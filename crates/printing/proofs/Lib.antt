@@ -2,6 +2,3 @@
 pub mod Bytes
 pub mod Whole
 pub mod Front
-pub mod Back
-pub mod Again
-pub mod Round

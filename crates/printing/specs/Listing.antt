@@ -36,10 +36,10 @@ ifPresent kind G Q i rank = pick (eqb rank absent) [] (cellBytes kind G Q i rank
 unfoldable pub cellsBytes : Kind → (G Q : ℕ) → (cells : List ℕ) → ℕ → List ℕ
 cellsBytes kind G Q cells n = over (upTo n) (λ i. ifPresent kind G Q i (getD cells i 0))
 
--- rounds, count of heads, count of triples
-unfoldable pub headerBytes : (G Q rounds : ℕ) → (heads triples : List ℕ) → List ℕ
-headerBytes G Q rounds hs ts = lineBytes safe (rounds ∷ length (presentIn hs (Q * G)) ∷ length (presentIn ts (Q * G * Q)) ∷ [])
+-- rounds, count of heads, count of triples, among the first h heads and the first t triples
+unfoldable pub headerBytes : (rounds : ℕ) → (heads : List ℕ) → (h : ℕ) → (triples : List ℕ) → (t : ℕ) → List ℕ
+headerBytes rounds hs h ts t = lineBytes safe (rounds ∷ length (presentIn hs h) ∷ length (presentIn ts t) ∷ [])
 
 -- the whole listing, for G symbols and Q states
 unfoldable pub listingBytes : (G Q rounds : ℕ) → (heads triples : List ℕ) → List ℕ
-listingBytes G Q rounds hs ts = headerBytes G Q rounds hs ts ++ cellsBytes Head G Q hs (Q * G) ++ cellsBytes Triple G Q ts (Q * G * Q)
+listingBytes G Q rounds hs ts = headerBytes rounds hs (Q * G) ts (Q * G * Q) ++ cellsBytes Head G Q hs (Q * G) ++ cellsBytes Triple G Q ts (Q * G * Q)

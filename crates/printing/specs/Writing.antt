@@ -8,7 +8,7 @@ use lib.Seq.{sets}
 use Rattle.text.specs.Split.{pick}
 use Rattle.table.specs.declared.Size.{Size}
 use Rattle.model.specs.declared.Model.{Model}
-use Rattle.listing.specs.Tested.{tested}
+use Rattle.fitting.specs.Fits.{tested}
 use Rattle.printing.specs.declared.Written.{Written}
 use Rattle.printing.specs.declared.Written.the-variants.{Invalid, Short, Bytes, Cut}
 use Rattle.printing.specs.Listing.{listingBytes}
@@ -35,8 +35,8 @@ fitted n room = pick (ltb room n) Cut (Bytes n)
 
 -- how many bytes the listing has; as many of them stand in `out` as it has room for, from its first byte on, and no other byte changes
 pub record Writes (m : Model) (rounds : ℕ) (heads triples out after : List ℕ) (answer : Written) : Type 0 where
-  pub answers : answer ≡ tested m heads triples Invalid Short (fitted (length (bytesOf m rounds heads triples)) (length out))
-  pub leaves : after ≡ tested m heads triples out out (sets out 0 (bytesOf m rounds heads triples))
+  pub answers : answer ≡ tested m (length heads) (length triples) Invalid Short (fitted (length (bytesOf m rounds heads triples)) (length out))
+  pub leaves : after ≡ tested m (length heads) (length triples) out out (sets out 0 (bytesOf m rounds heads triples))
 
 -- there are symbols and states, and the cell's number is small
 pub record Cell (size : Size) (i : ℕ) : Type 0 where
@@ -51,11 +51,17 @@ pub record Rows (size : Size) (cells : List ℕ) (n : ℕ) : Type 0 where
   pub there : n ≤ length cells
   pub few : n ≤ 2048
 
--- a table that is within the sizes, and in its arrays
-pub record Whole (size : Size) (heads triples : List ℕ) : Type 0 where
+-- so many heads and triples are there, and they are few
+pub record Counts (heads triples h t : ℕ) : Type 0 where
+  pub heads-there : h ≤ heads
+  pub heads-few : h ≤ 2048
+  pub triples-there : t ≤ triples
+  pub triples-few : t ≤ 2048
+
+-- they are the table of so many symbols and states
+pub record Whole (size : Size) (heads triples h t : ℕ) : Type 0 where
   pub some-symbol : 1 ≤ size .symbols
-  pub symbols : size .symbols ≤ 32
   pub some-state : 1 ≤ size .states
-  pub states : size .states ≤ 8
-  pub heads-there : size .states * size .symbols ≤ length heads
-  pub triples-there : size .states * size .symbols * size .states ≤ length triples
+  pub counts : Counts heads triples h t
+  pub heads-are : h ≡ size .states * size .symbols
+  pub triples-are : t ≡ size .states * size .symbols * size .states

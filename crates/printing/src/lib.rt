@@ -5,7 +5,7 @@ ghost use lib.ListN.{length};
 ghost use Rattle.print.specs.Put.{Put};
 ghost use Rattle.printing.specs.Listing.{cellBytes, ifPresent, presentIn, cellsBytes, headerBytes, listingBytes};
 ghost use Rattle.printing.specs.declared.Kind.the-variants.{Head, Triple};
-ghost use Rattle.printing.specs.Writing.{Writes, Cell, Rows, Whole};
+ghost use Rattle.printing.specs.Writing.{Writes, Cell, Rows, Counts, Whole};
 use model::Model;
 use table::ABSENT;
 use table::Size;
@@ -90,25 +90,36 @@ fn put_cells(out: &mut [u8], at: usize, kind: Kind, size: Size, cells: &[u16], n
     next
 }
 
-// Puts the header.
-fn put_header(out: &mut [u8], size: Size, rounds: u16, heads: &[u16], triples: &[u16]) -> usize
-    requires { ⌜ Whole size (now heads) (now triples) ⌝ }
-    ensures { λ r. ⌜ Put (now (out .entry)) (now (out .exit)) 0 r (headerBytes (size .symbols) (size .states) rounds (now (heads .entry)) (now (triples .entry))) ⌝ }
+// Puts the header: the rounds, and how many of the first h heads and of the first t triples are present.
+fn put_header(
+    out: &mut [u8],
+    rounds: u16,
+    heads: &[u16],
+    h: usize,
+    triples: &[u16],
+    t: usize,
+) -> usize
+    requires { ⌜ Counts (length (now heads)) (length (now triples)) h t ⌝ }
+    ensures { λ r. ⌜ Put (now (out .entry)) (now (out .exit)) 0 r (headerBytes rounds (now (heads .entry)) h (now (triples .entry)) t) ⌝ }
 {
-    let h = (size.states as usize) * (size.symbols as usize);
-    let t = h * (size.states as usize);
     let row = [rounds, count(heads, h), count(triples, t)];
     print::put_line(out, 0, b"safe", &row)
 }
 
-// Puts the whole listing.
-fn put_listing(out: &mut [u8], size: Size, rounds: u16, heads: &[u16], triples: &[u16]) -> usize
-    requires { ⌜ Whole size (now heads) (now triples) ⌝ }
+// Puts the whole listing of h heads and t triples.
+fn put_listing(
+    out: &mut [u8],
+    size: Size,
+    rounds: u16,
+    heads: &[u16],
+    h: usize,
+    triples: &[u16],
+    t: usize,
+) -> usize
+    requires { ⌜ Whole size (length (now heads)) (length (now triples)) h t ⌝ }
     ensures { λ r. ⌜ Put (now (out .entry)) (now (out .exit)) 0 r (listingBytes (size .symbols) (size .states) rounds (now (heads .entry)) (now (triples .entry))) ⌝ }
 {
-    let h = (size.states as usize) * (size.symbols as usize);
-    let t = h * (size.states as usize);
-    let first = put_header(out, size, rounds, heads, triples);
+    let first = put_header(out, rounds, heads, h, triples, t);
     let next = put_cells(out, first, Kind::Head, size, heads, h);
     put_cells(out, next, Kind::Triple, size, triples, t)
 }
@@ -123,22 +134,18 @@ pub fn write_listing(
 ) -> Written
     ensures { λ r. ⌜ Writes m rounds (now (heads .entry)) (now (triples .entry)) (now (out .entry)) (now (out .exit)) r ⌝ }
 {
-    if !model::is_valid(m) {
+    let fit = fitting::measure(m, heads.len(), triples.len());
+    if fit.refusal == 6 {
         return Written::Invalid;
+    }
+    if fit.refusal == 7 {
+        return Written::Short;
     }
     let size = Size {
         symbols: m.symbols,
         states: m.states,
     };
-    let h = (size.states as usize) * (size.symbols as usize);
-    let t = h * (size.states as usize);
-    if heads.len() < h {
-        return Written::Short;
-    }
-    if triples.len() < t {
-        return Written::Short;
-    }
-    let n = put_listing(out, size, rounds, heads, triples);
+    let n = put_listing(out, size, rounds, heads, fit.heads, triples, fit.triples);
     if out.len() < n {
         return Written::Cut;
     }

@@ -3,8 +3,8 @@
 use mathlib.Core.Bool.{Bool, true, false, cond}
 use mathlib.Core.List.{List, [], _∷_, _++_}
 use mathlib.Core.Option.{some}
-use mathlib.Core.Path.{_≡_, refl, ap, ap₂, sym, _∙_}
-use Prim.Native.Nat.{ℕ, _+_, _*_, _<_, _≤_}
+use mathlib.Core.Path.{_≡_, refl, ap, ap₂, sym, _∙_, subst}
+use Prim.Native.Nat.{ℕ, _+_, _*_, _<_, _≤_, min}
 use native.Mathlib.Nat.{mul-assoc, mul-le-mul}
 use native.Mathlib.Omega.{arith}
 use lib.Dec.{T, leb, ltb}
@@ -14,7 +14,7 @@ use borrow.Author.Tests.{le-leb, leb-true, leb-false, ltb-true, ltb-false, le-lt
 use Rattle.text.specs.Split.{pick}
 use Rattle.product.specs.Lists.{upTo, over, each}
 use Rattle.product.specs.Facts.{head, triple}
-use Rattle.product.specs.Product.{stored}
+use Rattle.product.specs.Product.{Step, stored}
 use Rattle.product.specs.Verdict.{Verdict, violation, safe, answer, bound, ran}
 use Rattle.product.specs.Table.{ranks, left}
 use Rattle.product.specs.Table as product
@@ -26,21 +26,23 @@ use Rattle.model.specs.declared.Model.{Model}
 use Rattle.model.specs.Model.{productOf}
 use Rattle.model.specs.Valid.{valid}
 use Rattle.model.proofs.Valid.{valid-sizes, product-in}
+use Rattle.fitting.proofs.Tested.{ample}
 use Rattle.decide.specs.Decided.{verdict, headCount, tripleCount, decision, decides, headsLeft, triplesLeft}
 use Rattle.trace.specs.declared.Traced.{Traced}
 use Rattle.trace.specs.declared.Traced.the-variants.{Found, Invalid, Short, Safe, Cut}
-use Rattle.trace.specs.Outcome.{traced, refused, meaning, tracedBy, stepsBy, Outcome}
-use Rattle.print.specs.Bytes.{lineBytes, namedBytes}
+use Rattle.trace.specs.Outcome.{Answer, traced, refused, meaning, tracedBy, stepsBy, Outcome}
 use Rattle.print.specs.Put.{placeIn, Put}
+use Rattle.print.proofs.Puts.{as-put}
 use Rattle.printing.specs.declared.Written as printing
 use Rattle.printing.specs.declared.Written.the-variants as listed
 use Rattle.printing.specs.declared.Written.the-variants.{Bytes}
 use Rattle.printing.specs.Listing.{listingBytes}
 use Rattle.printing.specs.Writing.{bytesOf, fitted, Writes}
-use Rattle.report.specs.Output.{room, foundBytes, cutBytes, verdictBytes, answerBytes, modelOutput}
-use Rattle.report.specs.Ready.{Steps, Table, Arrays}
-use Rattle.report.proofs.Steps.{lines-same}
-use Rattle.report.specs.Words.{violationWord, cutWord}
+use Rattle.violation.specs.Bytes.{room, shown, firstLine, violationBytes}
+use Rattle.violation.proofs.Lines.{lines-same}
+use Rattle.fitting.specs.Fits.{Fits}
+use Rattle.report.specs.Output.{tracedBytes, verdictBytes, answerBytes, modelOutput}
+use Rattle.report.specs.Told.{Told}
 use Rattle.printing.proofs.Front.{listing-front}
 
 -- the cells of a table that is laid out
@@ -64,7 +66,7 @@ placeOf listed.Invalid room = 0
 placeOf listed.Short room = 0
 
 -- of a valid model, and from arrays of its sizes, a listing is put
-module _ (m : Model) (rounds : ℕ) {hs ts out after : List ℕ} {w : printing.Written} (t : Table m (length hs) (length ts)) (x : Writes m rounds hs ts out after w) where
+module _ (m : Model) (rounds : ℕ) {hs ts out after : List ℕ} {w : printing.Written} (t : Fits m (length hs) (length ts)) (x : Writes m rounds hs ts out after w) where
   as-fitted : w ≡ fitted (length (bytesOf m rounds hs ts)) (length out)
   as-fitted = rw (T-true (valid m) (t .valid-model), le-ltb _ _ (t .heads-there), le-ltb _ _ (t .triples-there)) at (x .answers)
 
@@ -105,56 +107,6 @@ module _ (m : Model) where
       go true e = let z : _≡_ {A = ℕ} 0 1 = cc in omega arith
       go false e = let z : number ≡ 10 = cc in omega arith
 
-  module _ (rm : List ℕ) {rm′ : List ℕ} (roomy : length rm ≡ room) where
-    found-bytes : (v : Verdict) (n k : ℕ) → traced n k ≡ tracedBy m room (verdict v) → rm′ ≡ sets rm 0 (stepsBy m (verdict v))
-        → Steps rm′ k × (foundBytes m n rm′ k ≡ verdictBytes m v)
-    found-bytes (safe j) n k e f = let z : _≡_ {A = ℕ} 0 1 = cc in absurd (omega arith)
-    found-bytes (violation j) n k e f = go (leb (length (traceOf (productOf m) (violation j))) room) refl e
-      where
-        ss : List ℕ
-        ss = each (traceOf (productOf m) (violation j)) stored
-
-        go : (b : Bool) → leb (length (traceOf (productOf m) (violation j))) room ≡ b
-            → traced n k ≡ cond b (traced j (length (traceOf (productOf m) (violation j)))) (refused 10 (j ∷ room ∷ []))
-            → Steps rm′ k × (foundBytes m n rm′ k ≡ verdictBytes m (violation j))
-        go true q e =
-            let a : n ≡ j = cc in
-            let c : k ≡ length (traceOf (productOf m) (violation j)) = cc in
-            let d : length ss ≡ length (traceOf (productOf m) (violation j)) = length-each (traceOf (productOf m) (violation j)) stored in
-            let l : length (traceOf (productOf m) (violation j)) ≤ room = leb-true _ _ q in
-            let g : k ≡ length ss = c ∙ sym d in
-            let h : leb (length ss) room ≡ true = ap (λ x. leb x room) d ∙ q in (
-              record { there = omega (arith, ap length f, length-sets rm 0 ss); few = omega arith },
-              ap (λ x. foundBytes m n x k) f ∙ ap₂ (λ x y. foundBytes m x (sets rm 0 ss) y) a g
-                  ∙ ap (λ x. lineBytes violationWord (j ∷ length ss ∷ []) ++ x) (lines-same (m .rulerows) (m .moverows) rm ss (length ss) (omega arith) (omega arith))
-                  ∙ ap (λ b. cond b (foundBytes m j ss (length ss)) (cutBytes m j ss room)) (sym h),
-            )
-        go false q e = let z : _≡_ {A = ℕ} 0 1 = cc in absurd (omega arith)
-
-    cut-bytes : (v : Verdict) (n k : ℕ) → refused 10 (n ∷ k ∷ []) ≡ tracedBy m room (verdict v) → rm′ ≡ sets rm 0 (stepsBy m (verdict v))
-        → Steps rm′ k × (cutBytes m n rm′ k ≡ verdictBytes m v)
-    cut-bytes (safe j) n k e f = let z : _≡_ {A = ℕ} 10 9 = cc in absurd (omega arith)
-    cut-bytes (violation j) n k e f = go (leb (length (traceOf (productOf m) (violation j))) room) refl e
-      where
-        ss : List ℕ
-        ss = each (traceOf (productOf m) (violation j)) stored
-
-        go : (b : Bool) → leb (length (traceOf (productOf m) (violation j))) room ≡ b
-            → refused 10 (n ∷ k ∷ []) ≡ cond b (traced j (length (traceOf (productOf m) (violation j)))) (refused 10 (j ∷ room ∷ []))
-            → Steps rm′ k × (cutBytes m n rm′ k ≡ verdictBytes m (violation j))
-        go true q e = let z : _≡_ {A = ℕ} 0 1 = cc in absurd (omega arith)
-        go false q e =
-            let a : n ≡ j = cc in
-            let g : k ≡ room = cc in
-            let d : length ss ≡ length (traceOf (productOf m) (violation j)) = length-each (traceOf (productOf m) (violation j)) stored in
-            let l : room < length (traceOf (productOf m) (violation j)) = leb-false _ _ q in
-            let h : leb (length ss) room ≡ false = ap (λ x. leb x room) d ∙ q in (
-              record { there = omega (arith, ap length f, length-sets rm 0 ss); few = omega arith },
-              ap (λ x. cutBytes m n x k) f ∙ ap₂ (λ x y. cutBytes m x (sets rm 0 ss) y) a g
-                  ∙ ap (λ x. namedBytes violationWord (j ∷ []) cutWord ++ x) (lines-same (m .rulerows) (m .moverows) rm ss room (omega arith) (omega arith))
-                  ∙ ap (λ b. cond b (foundBytes m j ss (length ss)) (cutBytes m j ss room)) (sym h),
-            )
-
   safe-bytes : (v : Verdict) (n : ℕ) → refused 9 (n ∷ []) ≡ tracedBy m room (verdict v) → v ≡ safe n
   safe-bytes (safe j) n e = let z : j ≡ n = cc in ap safe z
   safe-bytes (violation j) n e = go (leb (length (traceOf (productOf m) (violation j))) room) e
@@ -163,74 +115,125 @@ module _ (m : Model) where
       go true e = let z : _≡_ {A = ℕ} 0 1 = cc in absurd (omega arith)
       go false e = let z : _≡_ {A = ℕ} 9 10 = cc in absurd (omega arith)
 
+-- a trace that is told whole or cut
+abbrev toldAs : (whole : Bool) → (n k : ℕ) → Answer
+toldAs true n k = traced n k
+toldAs false n k = refused 10 (n ∷ k ∷ [])
+
+-- the steps as they stand in a room print as those of the trace
+module _ (m : Model) (rm : List ℕ) {rm′ : List ℕ} (roomy : length rm ≡ room) where
+  printed : (ss : List ℕ) → rm′ ≡ sets rm 0 ss → (whole : Bool) (j k : ℕ) → leb (length ss) room ≡ whole → k ≡ min (length ss) room
+      → violationBytes m whole j rm′ (shown (length rm′) k) ≡ tracedBytes m j ss
+  printed ss f whole j k h e =
+      let n : shown (length rm′) k ≡ min (length ss) room = omega (arith, ap length f, length-sets rm 0 ss) in
+      ap₂ (λ r n. violationBytes m whole j r n) f n
+      ∙ ap (λ x. firstLine whole j (min (length ss) room) ++ x) (lines-same (m .rulerows) (m .moverows) rm ss (min (length ss) room) (omega arith) (omega arith))
+      ∙ ap (λ b. violationBytes m b j ss (min (length ss) room)) (sym h)
+
+  violation-bytes : (whole : Bool) (v : Verdict) (n k : ℕ) → toldAs whole n k ≡ tracedBy m room (verdict v) → rm′ ≡ sets rm 0 (stepsBy m (verdict v))
+      → violationBytes m whole n rm′ (shown (length rm′) k) ≡ verdictBytes m v
+  violation-bytes true (safe j) n k e f = let z : _≡_ {A = ℕ} 0 1 = cc in absurd (omega arith)
+  violation-bytes false (safe j) n k e f = let z : _≡_ {A = ℕ} 10 9 = cc in absurd (omega arith)
+  violation-bytes whole (violation j) n k e f = go whole (leb (length tr) room) refl e
+    where
+      tr : List Step
+      tr = traceOf (productOf m) (violation j)
+
+      same : length (each tr stored) ≡ length tr
+      same = length-each tr stored
+
+      go : (whole b : Bool) → leb (length tr) room ≡ b → toldAs whole n k ≡ cond b (traced j (length tr)) (refused 10 (j ∷ room ∷ []))
+          → violationBytes m whole n rm′ (shown (length rm′) k) ≡ tracedBytes m j (each tr stored)
+      go true true q e =
+          let a : n ≡ j = cc in
+          let c : k ≡ length tr = cc in
+          ap (λ x. violationBytes m true x rm′ (shown (length rm′) k)) a ∙ printed (each tr stored) f true j k (ap (λ x. leb x room) same ∙ q) (omega (arith, same, leb-true (length tr) room q))
+      go false false q e =
+          let a : n ≡ j = cc in
+          let c : k ≡ room = cc in
+          ap (λ x. violationBytes m false x rm′ (shown (length rm′) k)) a ∙ printed (each tr stored) f false j k (ap (λ x. leb x room) same ∙ q) (omega (arith, same, leb-false (length tr) room q))
+      go true false q e = let z : _≡_ {A = ℕ} 0 1 = cc in absurd (omega arith)
+      go false true q e = let z : _≡_ {A = ℕ} 0 1 = cc in absurd (omega arith)
+
 -- the call's outcome, with arrays of the model's sizes and this budget
-module _ (m : Model) (b : ℕ) {hs ts rm hs′ ts′ rm′ : List ℕ} {r : Traced} (A : Arrays m (length hs) (length ts) (length rm)) (e : b ≡ bound (productOf m))
-    (O : Outcome m b hs ts rm r hs′ ts′ rm′) where
+module _ (m : Model) {r : Traced} {hs′ ts′ rm′ : List ℕ} (A : Told m r hs′ ts′ rm′) where
   ok : T (valid m)
-  ok = A .table .valid-model
+  ok = A .fits .valid-model
+
+  abbrev b : ℕ
+  b = bound (productOf m)
 
   the-verdict : (v : Verdict) × (answer (productOf m) b ≡ some v)
   the-verdict = demands (productOf m) (product-in m ok) .answer-bound b (omega arith)
 
-  decided : decision m b (length hs) (length ts) ≡ verdict (the-verdict .0)
+  decided : decision m b (length (A .hs)) (length (A .ts)) ≡ verdict (the-verdict .0)
   unfolding decision
-  decided = rw (T-true (valid m) ok, le-leb _ _ (A .table .heads-there), le-leb _ _ (A .table .triples-there), the-verdict .1)
+  decided = rw (T-true (valid m) ok, le-leb _ _ (A .fits .heads-there), le-leb _ _ (A .fits .triples-there), the-verdict .1)
 
-  ready : decides m hs ts ≡ true
-  ready = rw (T-true (valid m) ok, le-leb _ _ (A .table .heads-there), le-leb _ _ (A .table .triples-there))
+  ready : decides m (A .hs) (A .ts) ≡ true
+  ready = rw (T-true (valid m) ok, le-leb _ _ (A .fits .heads-there), le-leb _ _ (A .fits .triples-there))
 
   answered : meaning r ≡ tracedBy m room (verdict (the-verdict .0))
-  answered = O .answer ∙ ap₂ (tracedBy m) (A .roomy) decided
+  answered = A .outcome .answer ∙ ap₂ (tracedBy m) (A .roomy) decided
 
-  steps-are : rm′ ≡ sets rm 0 (stepsBy m (verdict (the-verdict .0)))
-  steps-are = O .steps ∙ ap (λ d. sets rm 0 (stepsBy m d)) decided
+  steps-are : rm′ ≡ sets (A .rm) 0 (stepsBy m (verdict (the-verdict .0)))
+  steps-are = A .outcome .steps ∙ ap (λ d. sets (A .rm) 0 (stepsBy m d)) decided
 
   output-is : verdictBytes m (the-verdict .0) ≡ modelOutput m
   unfolding modelOutput
-  output-is = sym (ap (λ k. answerBytes m (answer (productOf m) k)) (sym e) ∙ ap (answerBytes m) (the-verdict .1))
+  output-is = sym (ap (answerBytes m) (the-verdict .1))
 
-  pub never : (number : ℕ) (values : List ℕ) → number < 9 → meaning r ≡ refused number values → ⊥
-  never number values l k = never-refused m (the-verdict .0) number values l (sym k ∙ answered)
+  pub never : {o : List ℕ} {next : ℕ} (number : ℕ) (values : List ℕ) → number < 9 → meaning r ≡ refused number values → Put o o 0 next (modelOutput m)
+  never number values l k = absurd (never-refused m (the-verdict .0) number values l (sym k ∙ answered))
 
-  module _ (n k : ℕ) where
-    pub found-steps : r ≡ Found n k → Steps rm′ k
-    found-steps q = found-bytes m rm (A .roomy) (the-verdict .0) n k (sym (ap meaning q) ∙ answered) steps-are .0
+  module _ (n k : ℕ) {o p : List ℕ} {next : ℕ} where
+    pub found-put : r ≡ Found n k → Put o p 0 next (violationBytes m true n rm′ (shown (length rm′) k)) → Put o p 0 next (modelOutput m)
+    found-put q = as-put (violation-bytes m (A .rm) (A .roomy) true (the-verdict .0) n k (sym (ap meaning q) ∙ answered) steps-are ∙ output-is)
 
-    pub found-output : r ≡ Found n k → foundBytes m n rm′ k ≡ modelOutput m
-    found-output q = found-bytes m rm (A .roomy) (the-verdict .0) n k (sym (ap meaning q) ∙ answered) steps-are .1 ∙ output-is
+    pub cut-put : r ≡ Cut n k → Put o p 0 next (violationBytes m false n rm′ (shown (length rm′) k)) → Put o p 0 next (modelOutput m)
+    cut-put q = as-put (violation-bytes m (A .rm) (A .roomy) false (the-verdict .0) n k (sym (ap meaning q) ∙ answered) steps-are ∙ output-is)
 
-    pub cut-steps : r ≡ Cut n k → Steps rm′ k
-    cut-steps q = cut-bytes m rm (A .roomy) (the-verdict .0) n k (sym (ap meaning q) ∙ answered) steps-are .0
-
-    pub cut-output : r ≡ Cut n k → cutBytes m n rm′ k ≡ modelOutput m
-    cut-output q = cut-bytes m rm (A .roomy) (the-verdict .0) n k (sym (ap meaning q) ∙ answered) steps-are .1 ∙ output-is
-
-  heads-are : hs′ ≡ headsOf (m .symbols) (m .states) (left (productOf m) b) ++ drop (headCount m) hs
+  heads-are : hs′ ≡ headsOf (m .symbols) (m .states) (left (productOf m) b) ++ drop (headCount m) (A .hs)
   unfolding headsLeft
-  heads-are = O .heads ∙ rw ready
+  heads-are = A .outcome .heads ∙ rw ready
 
-  triples-are : ts′ ≡ triplesOf (m .symbols) (m .states) (left (productOf m) b) ++ drop (tripleCount m) ts
+  triples-are : ts′ ≡ triplesOf (m .symbols) (m .states) (left (productOf m) b) ++ drop (tripleCount m) (A .ts)
   unfolding triplesLeft
-  triples-are = O .triples ∙ rw ready
+  triples-are = A .outcome .triples ∙ rw ready
 
   -- the lengths are as they were
-  pub table-after : Table m (length hs′) (length ts′)
-  table-after = record {
+  pub fits-after : Fits m (length hs′) (length ts′)
+  fits-after = record {
     valid-model = ok;
-    heads-there = rw heads-are (omega (arith, length-append (headsOf (m .symbols) (m .states) (left (productOf m) b)) (drop (headCount m) hs), length-heads (m .symbols) (m .states) (left (productOf m) b)));
-    triples-there = rw triples-are (omega (arith, length-append (triplesOf (m .symbols) (m .states) (left (productOf m) b)) (drop (tripleCount m) ts), length-triples (m .symbols) (m .states) (left (productOf m) b)));
+    heads-there = rw heads-are (omega (arith, length-append (headsOf (m .symbols) (m .states) (left (productOf m) b)) (drop (headCount m) (A .hs)), length-heads (m .symbols) (m .states) (left (productOf m) b)));
+    triples-there = rw triples-are (omega (arith, length-append (triplesOf (m .symbols) (m .states) (left (productOf m) b)) (drop (tripleCount m) (A .ts)), length-triples (m .symbols) (m .states) (left (productOf m) b)));
   }
 
   module _ (n : ℕ) (q : r ≡ Safe n) where
-    safe-answer : answer (productOf m) b ≡ some (safe n)
-    safe-answer = the-verdict .1 ∙ ap some (safe-bytes m (the-verdict .0) n (sym (ap meaning q) ∙ answered))
+    is-safe : the-verdict .0 ≡ safe n
+    is-safe = safe-bytes m (the-verdict .0) n (sym (ap meaning q) ∙ answered)
 
     table-is : left (productOf m) b ≡ ranks (productOf m) n
-    table-is = ap (λ o. ranks (productOf m) (ran b o)) safe-answer
+    table-is = ap (λ o. ranks (productOf m) (ran b o)) (the-verdict .1 ∙ ap some is-safe)
 
-    pub safe-output : bytesOf m n hs′ ts′ ≡ modelOutput m
+    safe-output : bytesOf m n hs′ ts′ ≡ modelOutput m
     safe-output =
         ap₂ (bytesOf m n) heads-are triples-are
-        ∙ listing-front (m .symbols) (m .states) n (headsOf (m .symbols) (m .states) (left (productOf m) b)) (drop (headCount m) hs) (triplesOf (m .symbols) (m .states) (left (productOf m) b)) (drop (tripleCount m) ts) (length-heads (m .symbols) (m .states) (left (productOf m) b)) (length-triples (m .symbols) (m .states) (left (productOf m) b))
+        ∙ listing-front (m .symbols) (m .states) n (headsOf (m .symbols) (m .states) (left (productOf m) b)) (drop (headCount m) (A .hs)) (triplesOf (m .symbols) (m .states) (left (productOf m) b)) (drop (tripleCount m) (A .ts)) (length-heads (m .symbols) (m .states) (left (productOf m) b)) (length-triples (m .symbols) (m .states) (left (productOf m) b))
         ∙ ap (λ t. listingBytes (m .symbols) (m .states) n (headsOf (m .symbols) (m .states) t) (triplesOf (m .symbols) (m .states) t)) table-is
-        ∙ ap (verdictBytes m) (sym (safe-bytes m (the-verdict .0) n (sym (ap meaning q) ∙ answered))) ∙ output-is
+        ∙ ap (verdictBytes m) (sym is-safe) ∙ output-is
+
+    pub safe-put : {o p : List ℕ} {next : ℕ} → Put o p 0 next (bytesOf m n hs′ ts′) → Put o p 0 next (modelOutput m)
+    safe-put = as-put safe-output
+
+-- what the call told, in the code's arrays
+pub told : (m : Model) (v : T (valid m)) {b : ℕ} {hs ts rm hs′ ts′ rm′ : List ℕ} {r : Traced} → length hs ≡ 256 → length ts ≡ 2048 → length rm ≡ room → b ≡ bound (productOf m)
+    → Outcome m b hs ts rm r hs′ ts′ rm′ → Told m r hs′ ts′ rm′
+told m v {b} {hs} {ts} {rm} {hs′} {ts′} {rm′} {r} h t k e o = record {
+  hs = hs;
+  ts = ts;
+  rm = rm;
+  fits = ample m v h t;
+  roomy = k;
+  outcome = subst (λ b. Outcome m b hs ts rm r hs′ ts′ rm′) e o;
+}

@@ -1,4 +1,3 @@
 -- What `pdcheck` prints, as bytes. Assumes nothing.
-pub mod Words
 pub mod Output
-pub mod Ready
+pub mod Told

@@ -1,20 +1,22 @@
--- The line of a refused listing, and the rule and the move of a table that is not closed, are small numbers. Assumes nothing.
+-- The line of a refused listing, and the rule and the move of a table that is not closed, are small numbers; and a valid model with arrays of its sizes is
+-- refused neither by the reading nor by the check. Assumes nothing.
 use mathlib.Core.Bool.{Bool, true, false, cond, not}
 use mathlib.Core.List.{List, [], _∷_}
 use mathlib.Core.Option.{Option, none, some}
 use mathlib.Core.Path.{_≡_, refl, subst}
-use Prim.Native.Nat.{ℕ, _+_, _<_, _≤_}
+use Prim.Native.Nat.{ℕ, _+_, _*_, _<_, _≤_}
+use native.Mathlib.Nat.{mul-comm}
 use native.Mathlib.Omega.{arith}
 use lib.Dec.{T, eqb, ltb}
 use lib.ListN.{length}
-use borrow.Author.Tests.{ltb-false}
+use borrow.Author.Tests.{ltb-false, le-leb}
 use Rattle.text.specs.Split.{pick, first, later, split}
 use Rattle.line.specs.Line.{lineOf}
 use Rattle.product.specs.Lists.{All, upTo, each, find}
 use Rattle.product.specs.Product.{Step}
 use Rattle.product.specs.Facts.{Fact, first as start, pairs}
-use Rattle.product.specs.Check.{passes, fails, closedAt, clean, openAt, checked}
-use Rattle.product.proofs.Lists.{All-over, All-each, upTo-lt}
+use Rattle.product.specs.Check.{Checked, passes, fails, closedAt, clean, openAt, checked}
+use Rattle.product.proofs.Lists.{T-true, All-over, All-each, upTo-lt}
 use Rattle.table.specs.declared.Size.{Size}
 use Rattle.model.specs.declared.Model.{Model}
 use Rattle.model.specs.Model.{productOf}
@@ -23,23 +25,15 @@ use Rattle.model.proofs.Valid.{valid-sizes}
 use Rattle.recheck.specs.declared.Recheck.{Recheck}
 use Rattle.recheck.specs.declared.Recheck.the-variants.{Accepted, Invalid, Short, NoStart, Violating, Open}
 use Rattle.recheck.specs.Recheck.{sizeOf, longEnough, inTable, answer, recheck}
-use Rattle.listing.specs.declared.State.{State}
+use Rattle.rows.specs.declared.State.{State}
 use Rattle.listing.specs.declared.ListingRead.{ListingRead}
 use Rattle.listing.specs.declared.ListingRead.the-variants as listing
-use Rattle.listing.specs.Lines.{startState, ends, stepOf, finished, readFrom}
-use Rattle.listing.specs.Reading.{longest, linesOf, refusedAs, answerOf}
-use Rattle.report.proofs.Reading.{lines-few}
+use Rattle.rows.specs.Lines.{longest, startState, ends, stepOf, finished, readFrom, readText}
+use Rattle.listing.specs.Reading.{number, linesOf, refusedAs, answerOf}
+use Rattle.refusal.proofs.Reading.{lines-few}
+use Rattle.fitting.specs.Fits.{Fits}
+use Rattle.rereport.specs.Heard.{lineIn}
 use Rattle.rereport.specs.Output.{listingRead}
-
--- the line of a refusal
-abbrev pub lineIn : ListingRead → ℕ
-lineIn (listing.Accepted rounds) = 0
-lineIn listing.Invalid = 0
-lineIn listing.Short = 0
-lineIn listing.TooLong = 0
-lineIn (listing.Malformed line) = line
-lineIn (listing.Misplaced line) = line
-lineIn (listing.OutOfRange line) = line
 
 line-within : (z : Size) (n : ℕ) (s : State) (l : List ℕ) (ls : List (List ℕ)) → readFrom z n s l ls .line ≤ n + length ls
 unfolding readFrom
@@ -56,25 +50,43 @@ line-within z n s l (k ∷ ls) =
     go h true = omega arith
     go h false = omega arith
 
-refused-line : (n line : ℕ) → lineIn (refusedAs n line) ≡ line
+refused-line : (n line : ℕ) → lineIn (refusedAs n line) ≤ line
 unfolding refusedAs
-refused-line n line = go (eqb n 2) (eqb n 3)
+refused-line n line = go (eqb n 1) (eqb n 2) (eqb n 3)
   where
-    go : (a b : Bool) → lineIn (pick a (listing.Malformed line) (pick b (listing.Misplaced line) (listing.OutOfRange line))) ≡ line
-    go true b = refl
-    go false true = refl
-    go false false = refl
+    go : (o a b : Bool) → lineIn (pick o listing.TooLong (pick a (listing.Malformed line) (pick b (listing.Misplaced line) (listing.OutOfRange line)))) ≤ line
+    go true a b = omega arith
+    go false true b = omega arith
+    go false false true = omega arith
+    go false false false = omega arith
+
+text-line : (z : Size) (text : List ℕ) → readText z text .line < 65536
+text-line z text = go (ltb longest (length text)) refl
+  where
+    go : (a : Bool) → ltb longest (length text) ≡ a → pick a (ends 1 0 startState) (readFrom z 1 startState (first 10 text) (later 10 text)) .line < 65536
+    go true e = omega arith
+    go false e = omega (arith, ltb-false longest (length text) e, line-within z 1 startState (first 10 text) (later 10 text), lines-few text)
 
 pub listing-line : (m : Model) (text : List ℕ) → lineIn (listingRead m text) < 65536
 unfolding answerOf
-listing-line m text = go (ltb longest (length text)) refl (eqb (linesOf m text .refusal) 0)
+listing-line m text = go (eqb (linesOf m text .refusal) 0)
   where
-    go : (a : Bool) → ltb longest (length text) ≡ a → (b : Bool)
-        → lineIn (pick a listing.TooLong (pick b (listing.Accepted (linesOf m text .state .rounds)) (refusedAs (linesOf m text .refusal) (linesOf m text .line)))) < 65536
-    go true e b = omega arith
-    go false e true = omega arith
-    go false e false =
-        omega (arith, ltb-false longest (length text) e, refused-line (linesOf m text .refusal) (linesOf m text .line), line-within (record { symbols = m .symbols; states = m .states }) 1 startState (first 10 text) (later 10 text), lines-few text)
+    go : (b : Bool) → lineIn (pick b (listing.Accepted (linesOf m text .state .rounds)) (refusedAs (linesOf m text .refusal) (linesOf m text .line))) < 65536
+    go true = omega arith
+    go false = omega (arith, refused-line (linesOf m text .refusal) (linesOf m text .line), text-line (record { symbols = m .symbols; states = m .states }) text)
+
+-- it is refused by a number of a text
+pub listing-number : (m : Model) (text : List ℕ) → number (listingRead m text) ≤ 4
+unfolding answerOf refusedAs
+listing-number m text = go (eqb (linesOf m text .refusal) 0) (eqb (linesOf m text .refusal) 1) (eqb (linesOf m text .refusal) 2) (eqb (linesOf m text .refusal) 3)
+  where
+    go : (a b c d : Bool)
+        → number (pick a (listing.Accepted (linesOf m text .state .rounds)) (pick b listing.TooLong (pick c (listing.Malformed (linesOf m text .line)) (pick d (listing.Misplaced (linesOf m text .line)) (listing.OutOfRange (linesOf m text .line)))))) ≤ 4
+    go true b c d = omega arith
+    go false true c d = omega arith
+    go false false true d = omega arith
+    go false false false true = omega arith
+    go false false false false = omega arith
 
 -- what is found passes what all pass
 find-all : {A : Type 0} (P : A → Type 0) (p : A → Bool) (xs : List A) → All P xs → (x : A) → find p xs ≡ some x → P x
@@ -101,6 +113,15 @@ moveIn Invalid = 0
 moveIn Short = 0
 moveIn NoStart = 0
 moveIn Violating = 0
+
+-- 01's number of an answer
+abbrev pub numberIn : Recheck → ℕ
+numberIn (Open r v) = 11
+numberIn Accepted = 0
+numberIn Invalid = 6
+numberIn Short = 7
+numberIn NoStart = 11
+numberIn Violating = 11
 
 abbrev Few : Recheck → Type 0
 Few c = (ruleIn c < 65536) × (moveIn c < 65536)
@@ -133,3 +154,26 @@ module _ (m : Model) (v : T (valid m)) where
       go true b h = (omega arith, omega arith)
       go false true h = (omega arith, omega arith)
       go false false h = h
+
+-- a table that fits is checked
+module _ (m : Model) (hs ts : List ℕ) (f : Fits m (length hs) (length ts)) where
+  long-enough : longEnough (sizeOf m) hs ts ≡ true
+  long-enough =
+      let a : m .symbols * m .states ≡ m .states * m .symbols = mul-comm (m .symbols) (m .states) in
+      rw (a, le-leb _ _ (f .heads-there), le-leb _ _ (f .triples-there))
+
+  is-checked : recheck m hs ts ≡ answer (checked (productOf m) (inTable (sizeOf m) hs ts))
+  unfolding recheck
+  is-checked = rw (T-true (valid m) (f .valid-model), long-enough)
+
+  answered : (c : Checked) → (numberIn (answer c) ≡ 6 → ⊥) × (numberIn (answer c) ≡ 7 → ⊥)
+  answered passes = (λ e. omega arith, λ e. omega arith)
+  answered (fails reason r v) = go (eqb reason 1) (eqb reason 2)
+    where
+      go : (a b : Bool) → (numberIn (cond a NoStart (cond b Violating (Open r v))) ≡ 6 → ⊥) × (numberIn (cond a NoStart (cond b Violating (Open r v))) ≡ 7 → ⊥)
+      go true b = (λ e. omega arith, λ e. omega arith)
+      go false true = (λ e. omega arith, λ e. omega arith)
+      go false false = (λ e. omega arith, λ e. omega arith)
+
+  pub not-refused : (numberIn (recheck m hs ts) ≡ 6 → ⊥) × (numberIn (recheck m hs ts) ≡ 7 → ⊥)
+  not-refused = rw is-checked (answered (checked (productOf m) (inTable (sizeOf m) hs ts)))

@@ -1,23 +1,18 @@
 -- What `pdrecheck` prints for a text: a refusal of the model or of the listing behind it, or the answer of the table check. Assumes nothing.
 use mathlib.Core.List.{List, [], _∷_}
 use Prim.Native.Nat.{ℕ}
-use lib.Dec.{ltb}
-use lib.ListN.{length, replicate}
-use Rattle.text.specs.Split.{pick}
+use lib.ListN.{replicate}
 use Rattle.model.specs.declared.Model.{Model}
-use Rattle.reader.specs.declared.Reading as model
-use Rattle.reader.specs.declared.Reading.the-variants as reading
 use Rattle.reader.specs.Text.{readModel}
 use Rattle.splitter.specs.Part.{listingOf, modelPart}
 use Rattle.listing.specs.declared.ListingRead.{ListingRead}
 use Rattle.listing.specs.declared.ListingRead.the-variants as listing
-use Rattle.listing.specs.Reading.{longest, linesOf, answerOf, headsLeft, triplesLeft}
+use Rattle.listing.specs.Reading.{linesOf, answerOf, headsLeft, triplesLeft}
 use Rattle.recheck.specs.declared.Recheck.{Recheck}
 use Rattle.recheck.specs.declared.Recheck.the-variants.{Accepted, Invalid, Short, NoStart, Violating, Open}
 use Rattle.recheck.specs.Recheck.{recheck}
 use Rattle.print.specs.Bytes.{lineBytes}
-use Rattle.report.specs.Words.{refusedWord}
-use Rattle.report.specs.Output.{refusedBytes}
+use Rattle.refusal.specs.Refusal.{refusedWord, refusedBytes, unlessRefused}
 
 -- "accepted" and a line feed
 abbrev pub acceptedLine : List ℕ
@@ -27,7 +22,7 @@ acceptedLine = 97 ∷ 99 ∷ 99 ∷ 101 ∷ 112 ∷ 116 ∷ 101 ∷ 100 ∷ 10 �
 abbrev pub openBytes : (reason rule move : ℕ) → List ℕ
 openBytes reason rule move = lineBytes refusedWord (11 ∷ reason ∷ rule ∷ move ∷ [])
 
--- the answer of the check; of a valid model with arrays of its sizes it is none of the last two
+-- the answer of the check; of a valid model with arrays of its sizes it is none of the last two (proofs/Small)
 abbrev pub checkBytes : Recheck → List ℕ
 checkBytes Accepted = acceptedLine
 checkBytes NoStart = openBytes 1 0 0
@@ -38,9 +33,9 @@ checkBytes Short = []
 
 -- what the listing is read as
 abbrev pub listingRead : Model → List ℕ → ListingRead
-listingRead m text = pick (ltb longest (length text)) listing.TooLong (answerOf (linesOf m text))
+listingRead m text = answerOf (linesOf m text)
 
--- an accepted listing is checked; it is none of the last two, which have no line
+-- an accepted listing is checked; it is none of the last two (proofs/Small), which have no line
 abbrev pub listingBytes : ListingRead → Recheck → List ℕ
 listingBytes (listing.Accepted rounds) c = checkBytes c
 listingBytes listing.TooLong c = refusedBytes 1 0
@@ -54,15 +49,6 @@ listingBytes listing.Short c = []
 unfoldable pub listingOutput : Model → (text heads triples : List ℕ) → List ℕ
 listingOutput m text hs ts = listingBytes (listingRead m text) (recheck m (headsLeft m (linesOf m text) hs) (triplesLeft m (linesOf m text) ts))
 
--- by the reading of the model
-abbrev pub readingBytes : model.Reading → Model → (text : List ℕ) → List ℕ
-readingBytes reading.Accepted m text = listingOutput m text (replicate 256 0) (replicate 2048 0)
-readingBytes reading.TooLong m text = refusedBytes 1 0
-readingBytes (reading.Malformed line) m text = refusedBytes 2 line
-readingBytes (reading.Misplaced line) m text = refusedBytes 3 line
-readingBytes (reading.OutOfRange line) m text = refusedBytes 4 line
-readingBytes (reading.TooMany line) m text = refusedBytes 5 line
-
--- all that is printed
+-- all that is printed: the refusal of the model, or what the listing behind it prints, read into arrays of zeros
 abbrev pub recheckOutput : List ℕ → List ℕ
-recheckOutput text = readingBytes (readModel (modelPart text) .reading) (readModel (modelPart text) .model) (listingOf text)
+recheckOutput text = unlessRefused (readModel (modelPart text) .reading) (listingOutput (readModel (modelPart text) .model) (listingOf text) (replicate 256 0) (replicate 2048 0))

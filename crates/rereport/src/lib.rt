@@ -2,13 +2,13 @@
 ghost use lib.Dec.{T};
 ghost use lib.ListN.{length, replicate};
 ghost use Rattle.model.specs.Valid.{valid};
+ghost use Rattle.fitting.specs.Fits.{Fits};
 ghost use Rattle.print.specs.Put.{Put};
 ghost use Rattle.recheck.specs.Recheck.{recheck};
-ghost use Rattle.report.specs.Ready.{Table};
-ghost use Rattle.rereport.specs.Output.{openBytes, checkBytes, listingOutput, recheckOutput};
+ghost use Rattle.rereport.specs.Output.{openBytes, checkBytes, listingBytes, listingOutput, recheckOutput};
+ghost use Rattle.rereport.specs.Heard.{Heard};
 use listing::ListingRead;
 use model::Model;
-use reader::Reading;
 use recheck::Recheck;
 
 // Puts the line of a table that is not accepted.
@@ -19,9 +19,9 @@ fn put_open(out: &mut [u8], reason: u16, rule: u16, by: u16) -> usize
     print::put_line(out, 0, b"refused", &row)
 }
 
-// Puts the answer of the table check.
+// Puts the answer of the table check. The record is valid and the arrays are long enough, so that it is never refused.
 fn put_checked<'a>(out: &mut [u8], m: Model, heads: &'a [u16], triples: &'a [u16]) -> usize
-    requires { ⌜ T (valid m) ⌝ }
+    requires { ⌜ Fits m (length (now heads)) (length (now triples)) ⌝ }
     ensures { λ r. ⌜ Put (now (out .entry)) (now (out .exit)) 0 r (checkBytes (recheck m (now (heads .entry)) (now (triples .entry)))) ⌝ }
 {
     let c = recheck::check_table(m, heads, triples);
@@ -35,31 +35,37 @@ fn put_checked<'a>(out: &mut [u8], m: Model, heads: &'a [u16], triples: &'a [u16
     }
 }
 
-// Reads the listing of a valid model into arrays of its sizes, checks it and puts the answer.
-fn put_table(out: &mut [u8], m: Model, text: &[u8], heads: &mut [u16], triples: &mut [u16]) -> usize
-    requires { ⌜ Table m (length (now heads)) (length (now triples)) ⌝ }
-    ensures { λ r. ⌜ Put (now (out .entry)) (now (out .exit)) 0 r (listingOutput m (now (text .entry)) (now (heads .entry)) (now (triples .entry))) ⌝ }
+// Puts the refusal of a listing, or the answer for the table that it left. That reading refuses neither the record nor the arrays.
+fn put_heard<'a>(
+    out: &mut [u8],
+    m: Model,
+    heard: ListingRead,
+    heads: &'a [u16],
+    triples: &'a [u16],
+) -> usize
+    requires { ⌜ Heard m heard (length (now heads)) (length (now triples)) ⌝ }
+    ensures { λ r. ⌜ Put (now (out .entry)) (now (out .exit)) 0 r (listingBytes heard (recheck m (now (heads .entry)) (now (triples .entry)))) ⌝ }
 {
-    let w = listing::read_listing(m, text, heads, triples);
-    match w {
+    match heard {
         ListingRead::Accepted(_) => put_checked(out, m, heads, triples),
-        ListingRead::TooLong => report::put_refused(out, 1, 0),
-        ListingRead::Malformed(line) => report::put_refused(out, 2, line as u16),
-        ListingRead::Misplaced(line) => report::put_refused(out, 3, line as u16),
-        ListingRead::OutOfRange(line) => report::put_refused(out, 4, line as u16),
+        ListingRead::TooLong => refusal::put_refused(out, 1, 0),
+        ListingRead::Malformed(line) => refusal::put_refused(out, 2, line as u16),
+        ListingRead::Misplaced(line) => refusal::put_refused(out, 3, line as u16),
+        ListingRead::OutOfRange(line) => refusal::put_refused(out, 4, line as u16),
         ListingRead::Invalid => 0,
         ListingRead::Short => 0,
     }
 }
 
-// Puts what a listing of a valid model prints.
+// Reads the listing of a valid model, checks it and puts the answer.
 fn put_listing(out: &mut [u8], m: Model, text: &[u8]) -> usize
     requires { ⌜ T (valid m) ⌝ }
     ensures { λ r. ⌜ Put (now (out .entry)) (now (out .exit)) 0 r (listingOutput m (now (text .entry)) (replicate 256 0) (replicate 2048 0)) ⌝ }
 {
     let mut heads = [0u16; 256];
     let mut triples = [0u16; 2048];
-    put_table(out, m, text, &mut heads, &mut triples)
+    let heard = listing::read_listing(m, text, &mut heads, &mut triples);
+    put_heard(out, m, heard, &heads, &triples)
 }
 
 // All that is printed for a text, into `out`, as much of it as has room.
@@ -67,18 +73,11 @@ pub fn recheck_text(text: &[u8], out: &mut [u8]) -> usize
     ensures { λ r. ⌜ Put (now (out .entry)) (now (out .exit)) 0 r (recheckOutput (now (text .entry))) ⌝ }
 {
     let part = splitter::model_part(text);
-    let read = reader::read_model(part);
-    let reading = read.reading;
-    let m = read.model;
-    match reading {
-        Reading::Accepted => {
-            let rest = splitter::listing_of(text);
-            put_listing(out, m, rest)
-        }
-        Reading::TooLong => report::put_refused(out, 1, 0),
-        Reading::Malformed(line) => report::put_refused(out, 2, line as u16),
-        Reading::Misplaced(line) => report::put_refused(out, 3, line as u16),
-        Reading::OutOfRange(line) => report::put_refused(out, 4, line as u16),
-        Reading::TooMany(line) => report::put_refused(out, 5, line as u16),
+    let seen = refusal::read_or_refuse(part, out);
+    if seen.accepted {
+        let m = seen.model;
+        let rest = splitter::listing_of(text);
+        return put_listing(out, m, rest);
     }
+    seen.end
 }

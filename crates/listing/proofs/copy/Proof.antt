@@ -3,7 +3,7 @@ use Rattle.listing.specs.Reading.{filled}
 use Prim.Native.Nat.{_-_, _≤_}
 use lib.ListN.{length, length-set}
 use mathlib.Core.Path.{_≡_, refl, _∙_}
-use Rattle.listing.proofs.Lines.{fill-none, fill-more}
+use Rattle.listing.proofs.Filled.{fill-none, fill-more}
 use borrow.Author.Needs.{needs}
 use native.Mathlib.Omega.{arith}
 use Rattle.listing.proofs.copy.Statement.{statement}

@@ -16,5 +16,9 @@ returns-3 : tie.Need-returns-3
 unfolding refusedAs
 returns-3 c = search tests
 
+returns-4 : tie.Need-returns-4
+unfolding refusedAs
+returns-4 c = search tests
+
 pub refused-as-spec : {M : Type 1} → statement M
-refused-as-spec = tie.close (tie.spec returns returns-2 returns-3)
+refused-as-spec = tie.close (tie.spec returns returns-2 returns-3 returns-4)

@@ -2,9 +2,9 @@
 use mathlib.Core.Path.{_≡_}
 use Prim.Native.Nat.{_-_, _≤_}
 use Rattle.print.specs.Put.{Put}
-use Rattle.print.proofs.Puts.{none-put, then-put, as-put, put-length}
+use Rattle.print.proofs.Puts.{none-put, as-put, put-length}
 use Rattle.printing.specs.Listing.{cellsBytes}
-use Rattle.printing.proofs.Bytes.{cells-none, cells-more}
+use Rattle.printing.proofs.Bytes.{cells-none, cells-put}
 use borrow.Author.Needs.{needs}
 use native.Mathlib.Omega.{arith}
 use Rattle.printing.proofs.put_cells.Statement.{statement}
@@ -38,7 +38,7 @@ loop-less : tie.Need-loop-less Inv-loop μ-loop
 loop-less c = search needs
 
 loop-again : tie.Need-loop-again Inv-loop μ-loop
-loop-again c = let a = c .before .before .before .before .before .before .before .before .before .before .args in (search needs, as-put (cells-more (a .kind) (a .size .symbols) (a .size .states) (a .cells .now) (c .before .before .before .before .before .before .loop .i)) (then-put (c .before .before .before .before .before .before .loop .inv .1) (c .before .before .put-fact .ensures)))
+loop-again c = let a = c .before .before .before .before .before .before .before .before .before .before .args in (search needs, cells-put (a .kind) (a .size .symbols) (a .size .states) (a .cells .now) (c .before .before .before .before .before .before .loop .i) (c .before .before .before .before .before .before .loop .inv .1) (c .before .before .put-fact .ensures))
 
 same-length : tie.Need-same-length Inv-loop μ-loop
 same-length c = put-length (c .before .loop .inv .1)

@@ -1,4 +1,5 @@
 -- `printing::put_head` meets its contract. Assumes nothing.
+use Rattle.print.proofs.Puts.{put-length}
 use native.Mathlib.Nat.{div-le-self, mod-le}
 use native.Mathlib.Omega.{arith}
 use borrow.Author.Needs.{needs}
@@ -30,7 +31,7 @@ put-line-requires : tie.Need-put-line-requires
 put-line-requires c κs = search needs
 
 same-length : tie.Need-same-length
-same-length c = search needs
+same-length c = put-length (c .before .before .put-line .ensures)
 
 returns : tie.Need-returns
 returns c = search needs

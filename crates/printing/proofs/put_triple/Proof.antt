@@ -1,4 +1,5 @@
 -- `printing::put_triple` meets its contract. Assumes nothing.
+use Rattle.print.proofs.Puts.{put-length}
 use Prim.Native.Nat.{_/_}
 use native.Mathlib.Nat.{div-le-self, mod-le}
 use native.Mathlib.Omega.{arith}
@@ -43,7 +44,7 @@ put-line-requires : tie.Need-put-line-requires
 put-line-requires c κs = search needs
 
 same-length : tie.Need-same-length
-same-length c = search needs
+same-length c = put-length (c .before .before .put-line .ensures)
 
 returns : tie.Need-returns
 returns c = search needs

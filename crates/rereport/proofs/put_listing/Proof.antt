@@ -1,30 +1,45 @@
 -- `rereport::put_listing` meets its contract. Assumes nothing.
-use Rattle.model.proofs.Bounds.{few-heads, few-triples}
+use mathlib.Core.Path.{refl}
+use Rattle.print.proofs.Puts.{put-length}
+use Rattle.fitting.proofs.Tested.{ample}
+use Rattle.rereport.proofs.Cases.{heard, heard-put}
 use borrow.Author.Needs.{needs}
 use Rattle.rereport.proofs.put_listing.Statement.{statement}
 use Rattle.rereport.proofs.put_listing.Tie as tie
 
-slice-aggregate-put-table : tie.Need-slice-aggregate-put-table
-slice-aggregate-put-table c = search needs
+slice-aggregate-read-listing : tie.Need-slice-aggregate-read-listing
+slice-aggregate-read-listing c = search needs
 
-slice-aggregate-put-table-2 : tie.Need-slice-aggregate-put-table-2
-slice-aggregate-put-table-2 c = search needs
+slice-aggregate-read-listing-2 : tie.Need-slice-aggregate-read-listing-2
+slice-aggregate-read-listing-2 c = search needs
 
-put-table-requires : tie.Need-put-table-requires
-put-table-requires c κs = record { valid-model = c .before .before .before .before .before .pre; heads-there = few-heads (c .before .before .before .before .before .args .m) (c .before .before .before .before .before .pre); triples-there = few-triples (c .before .before .before .before .before .args .m) (c .before .before .before .before .before .pre) }
+read-listing-requires : tie.Need-read-listing-requires
+read-listing-requires c κs = search needs
+
+slice-aggregate-put-heard : tie.Need-slice-aggregate-put-heard
+slice-aggregate-put-heard c = search needs
+
+slice-aggregate-put-heard-2 : tie.Need-slice-aggregate-put-heard-2
+slice-aggregate-put-heard-2 c = search needs
+
+put-heard-requires : tie.Need-put-heard-requires
+put-heard-requires c κs = let a = c .before .before .before .before .before .before .before .before .before .before .args in heard (a .m) (a .text .now) (ample (a .m) (c .before .before .before .before .before .before .before .before .before .before .pre) refl refl) (c .before .before .before .before .before .read-listing .ensures) (ample (a .m) (c .before .before .before .before .before .before .before .before .before .before .pre) (search needs) (search needs))
 
 same-length : tie.Need-same-length
-same-length c = search needs
+same-length c = put-length (c .before .before .put-heard .ensures)
 
 returns : tie.Need-returns
-returns c = search needs
+returns c = let a = c .before .before .before .before .before .before .before .before .before .before .before .before .before .args in heard-put (a .m) (a .text .now) (ample (a .m) (c .before .before .before .before .before .before .before .before .before .before .before .before .before .pre) refl refl) (c .before .before .before .before .before .before .before .before .read-listing .ensures) (c .before .before .put-heard .ensures)
 
 pub put-listing-spec : {M : Type 1} → statement M
 put-listing-spec =
     tie.close
     (tie.spec
-    slice-aggregate-put-table
-    slice-aggregate-put-table-2
-    put-table-requires
+    slice-aggregate-read-listing
+    slice-aggregate-read-listing-2
+    read-listing-requires
+    slice-aggregate-put-heard
+    slice-aggregate-put-heard-2
+    put-heard-requires
     same-length
     returns)

@@ -1,8 +1,8 @@
 -- `rereport::recheck_text` meets its contract. Assumes nothing.
-use mathlib.Core.Path.{refl}
-use Rattle.report.proofs.Reading.{line-fits, model-valid}
-use Rattle.rereport.proofs.Cases.{read-put, rest-put}
-use native.Mathlib.Omega.{arith}
+use mathlib.Core.Path.{_∙_}
+use Rattle.print.proofs.Puts.{put-length}
+use Rattle.refusal.proofs.Reading.{model-valid}
+use Rattle.rereport.proofs.Cases.{seen-put, unseen-put}
 use borrow.Author.Needs.{needs}
 use Rattle.rereport.proofs.recheck_text.Statement.{statement}
 use Rattle.rereport.proofs.recheck_text.Tie as tie
@@ -10,128 +10,36 @@ use Rattle.rereport.proofs.recheck_text.Tie as tie
 model-part-requires : tie.Need-model-part-requires
 model-part-requires c κs = search needs
 
-read-model-requires : tie.Need-read-model-requires
-read-model-requires c κs = search needs
-
-enum-told : tie.Need-enum-told
-enum-told c = search needs
+read-or-refuse-requires : tie.Need-read-or-refuse-requires
+read-or-refuse-requires c κs = search needs
 
 listing-of-requires : tie.Need-listing-of-requires
 listing-of-requires c κs = search needs
 
 put-listing-requires : tie.Need-put-listing-requires
-put-listing-requires c κs = model-valid _ (c .before .before .before .before .before .read-model .ensures) (c .before .before .enum-told .given .1) refl
-
-enum-told-2 : tie.Need-enum-told-2
-enum-told-2 c = search needs
-
-put-refused-requires : tie.Need-put-refused-requires
-put-refused-requires c κs = search needs
-
-enum-known-reading : tie.Need-enum-known-reading
-enum-known-reading c = search needs
-
-cast-put-refused : tie.Need-cast-put-refused
-cast-put-refused c = omega (arith, line-fits _ (c .before .before .before .before .before .read-model .ensures) (c .before .before .reading .given .1))
-
-put-refused-requires-2 : tie.Need-put-refused-requires-2
-put-refused-requires-2 c κs = search needs
-
-enum-known-reading-2 : tie.Need-enum-known-reading-2
-enum-known-reading-2 c = search needs
-
-cast-put-refused-2 : tie.Need-cast-put-refused-2
-cast-put-refused-2 c = omega (arith, line-fits _ (c .before .before .before .before .before .read-model .ensures) (c .before .before .reading2 .given .1))
-
-put-refused-requires-3 : tie.Need-put-refused-requires-3
-put-refused-requires-3 c κs = search needs
-
-enum-known-reading-3 : tie.Need-enum-known-reading-3
-enum-known-reading-3 c = search needs
-
-cast-put-refused-3 : tie.Need-cast-put-refused-3
-cast-put-refused-3 c = omega (arith, line-fits _ (c .before .before .before .before .before .read-model .ensures) (c .before .before .reading3 .given .1))
-
-put-refused-requires-4 : tie.Need-put-refused-requires-4
-put-refused-requires-4 c κs = search needs
-
-enum-known-reading-4 : tie.Need-enum-known-reading-4
-enum-known-reading-4 c = search needs
-
-cast-put-refused-4 : tie.Need-cast-put-refused-4
-cast-put-refused-4 c = omega (arith, line-fits _ (c .before .before .before .before .before .read-model .ensures) (c .before .before .reading4 .given .1))
-
-put-refused-requires-5 : tie.Need-put-refused-requires-5
-put-refused-requires-5 c κs = search needs
+put-listing-requires c κs = model-valid (c .before .before .before .before .before .before .read-or-refuse .ensures) (c .before .before .before .if1 .taken)
 
 same-length : tie.Need-same-length
-same-length c = search needs
+same-length c = put-length (c .before .before .put-listing .ensures) ∙ put-length (c .before .before .before .before .before .before .before .before .before .read-or-refuse .ensures .puts)
 
 returns : tie.Need-returns
-returns c = read-put (c .before .before .before .before .before .before .before .before .before .before .before .before .args .text .now) (c .before .before .before .before .before .before .before .before .before .model-part .ensures) (c .before .before .before .before .before .before .before .before .read-model .ensures) (c .before .before .before .before .before .enum-told .given .1) (rest-put _ _ _ (c .before .before .before .before .listing-of .ensures) (c .before .before .put-listing .ensures))
+returns c = seen-put (c .before .before .before .before .before .before .before .before .before .before .before .before .before .before .args .text .now) (c .before .before .before .before .before .before .before .before .before .before .before .model-part .ensures) (c .before .before .before .before .before .before .before .before .before .read-or-refuse .ensures) (c .before .before .before .before .listing-of .ensures) (c .before .before .before .before .before .before .if1 .taken) (c .before .before .put-listing .ensures)
 
 same-length-2 : tie.Need-same-length-2
-same-length-2 c = search needs
+same-length-2 c = put-length (c .before .before .before .read-or-refuse .ensures .puts)
 
 returns-2 : tie.Need-returns-2
-returns-2 c = read-put (c .before .before .before .before .before .before .before .before .before .before .before .args .text .now) (c .before .before .before .before .before .before .before .before .model-part .ensures) (c .before .before .before .before .before .before .before .read-model .ensures) (c .before .before .before .before .enum-told2 .given .1) (c .before .before .put-refused .ensures)
-
-same-length-3 : tie.Need-same-length-3
-same-length-3 c = search needs
-
-returns-3 : tie.Need-returns-3
-returns-3 c = read-put (c .before .before .before .before .before .before .before .before .before .before .before .before .args .text .now) (c .before .before .before .before .before .before .before .before .before .model-part .ensures) (c .before .before .before .before .before .before .before .before .read-model .ensures) (c .before .before .before .before .before .reading .given .1) (c .before .before .put-refused2 .ensures)
-
-same-length-4 : tie.Need-same-length-4
-same-length-4 c = search needs
-
-returns-4 : tie.Need-returns-4
-returns-4 c = read-put (c .before .before .before .before .before .before .before .before .before .before .before .before .args .text .now) (c .before .before .before .before .before .before .before .before .before .model-part .ensures) (c .before .before .before .before .before .before .before .before .read-model .ensures) (c .before .before .before .before .before .reading2 .given .1) (c .before .before .put-refused3 .ensures)
-
-same-length-5 : tie.Need-same-length-5
-same-length-5 c = search needs
-
-returns-5 : tie.Need-returns-5
-returns-5 c = read-put (c .before .before .before .before .before .before .before .before .before .before .before .before .args .text .now) (c .before .before .before .before .before .before .before .before .before .model-part .ensures) (c .before .before .before .before .before .before .before .before .read-model .ensures) (c .before .before .before .before .before .reading3 .given .1) (c .before .before .put-refused4 .ensures)
-
-same-length-6 : tie.Need-same-length-6
-same-length-6 c = search needs
-
-returns-6 : tie.Need-returns-6
-returns-6 c = read-put (c .before .before .before .before .before .before .before .before .before .before .before .before .args .text .now) (c .before .before .before .before .before .before .before .before .before .model-part .ensures) (c .before .before .before .before .before .before .before .before .read-model .ensures) (c .before .before .before .before .before .reading4 .given .1) (c .before .before .put-refused5 .ensures)
+returns-2 c = unseen-put (c .before .before .before .before .before .before .before .before .args .text .now) (c .before .before .before .before .before .model-part .ensures) (c .before .before .before .read-or-refuse .ensures) (c .if1 .left)
 
 pub recheck-text-spec : {M : Type 1} → statement M
 recheck-text-spec =
     tie.close
     (tie.spec
     model-part-requires
-    read-model-requires
-    enum-told
+    read-or-refuse-requires
     listing-of-requires
     put-listing-requires
-    enum-told-2
-    put-refused-requires
-    enum-known-reading
-    cast-put-refused
-    put-refused-requires-2
-    enum-known-reading-2
-    cast-put-refused-2
-    put-refused-requires-3
-    enum-known-reading-3
-    cast-put-refused-3
-    put-refused-requires-4
-    enum-known-reading-4
-    cast-put-refused-4
-    put-refused-requires-5
     same-length
     returns
     same-length-2
-    returns-2
-    same-length-3
-    returns-3
-    same-length-4
-    returns-4
-    same-length-5
-    returns-5
-    same-length-6
-    returns-6)
+    returns-2)

@@ -1,0 +1,2 @@
+-- Laws of the tests of a model and a table.
+pub mod Tested

@@ -1,0 +1,94 @@
+-- The tests of 6 and 7 case by case, and by the number that they gave. Assumes nothing.
+use mathlib.Core.Bool.{Bool, true, false}
+use mathlib.Core.Path.{_≡_, refl, sym, ap, _∙_}
+use Prim.Native.Nat.{ℕ, _<_, _≤_}
+use native.Mathlib.Omega.{arith}
+use lib.Dec.{T, ltb}
+use borrow.Author.Tests.{lt-ltb, le-ltb, ltb-false}
+use Rattle.text.specs.Split.{pick}
+use Rattle.product.proofs.Lists.{T-true}
+use Rattle.model.specs.declared.Model.{Model}
+use Rattle.model.specs.Valid.{valid}
+use Rattle.model.proofs.Bounds.{few-heads, few-triples}
+use Rattle.fitting.specs.declared.Fit.{Fit}
+use Rattle.fitting.specs.Fits.{headsOf, triplesOf, tested, fitOf, Fits}
+
+-- how many cells a table has at the most
+pub record Cells (m : Model) : Type 0 where
+  pub heads : headsOf m ≤ 256
+  pub triples : triplesOf m ≤ 2048
+
+pub cells-fit : (m : Model) → valid m ≡ true → Cells m
+cells-fit m v = let t : T (valid m) = rw v tt in record { heads = few-heads m t; triples = few-triples m t }
+
+-- arrays for every model
+pub ample : (m : Model) {h t : ℕ} → T (valid m) → h ≡ 256 → t ≡ 2048 → Fits m h t
+ample m v h t = record { valid-model = v; heads-there = omega (arith, few-heads m v); triples-there = omega (arith, few-triples m v) }
+
+module _ (m : Model) (h t : ℕ) where
+  -- the record, and the two arrays
+  pub tested-invalid : valid m ≡ false → {A : Type 0} (a b c : A) → tested m h t a b c ≡ a
+  tested-invalid v a b c = rw v
+
+  pub tested-heads : valid m ≡ true → h < headsOf m → {A : Type 0} (a b c : A) → tested m h t a b c ≡ b
+  tested-heads v l a b c = rw (v, lt-ltb _ _ l)
+
+  pub tested-triples : valid m ≡ true → headsOf m ≤ h → t < triplesOf m → {A : Type 0} (a b c : A) → tested m h t a b c ≡ b
+  tested-triples v l k a b c = rw (v, le-ltb _ _ l, lt-ltb _ _ k)
+
+  pub fits-well : valid m ≡ true → headsOf m ≤ h → triplesOf m ≤ t → {A : Type 0} (a b c : A) → tested m h t a b c ≡ c
+  fits-well v l k a b c = rw (v, le-ltb _ _ l, le-ltb _ _ k)
+
+  pub tested-well : Fits m h t → {A : Type 0} (a b c : A) → tested m h t a b c ≡ c
+  tested-well f a b c = fits-well (T-true (valid m) (f .valid-model)) (f .heads-there) (f .triples-there) a b c
+
+  -- by the number
+  tested-ap : {A B : Type 0} (f : A → B) (a b c : A) → tested m h t (f a) (f b) (f c) ≡ f (tested m h t a b c)
+  tested-ap {A} {B} f a b c = go (valid m) (ltb h (headsOf m)) (ltb t (triplesOf m))
+    where
+      go : (x y z : Bool) → pick x (pick y (f b) (pick z (f b) (f c))) (f a) ≡ f (pick x (pick y b (pick z b c)) a)
+      go false y z = refl
+      go true true z = refl
+      go true false true = refl
+      go true false false = refl
+
+  module _ {f : Fit} (e : f ≡ fitOf m h t) where
+    number : tested m h t 6 7 0 ≡ f .refusal
+    number = tested-ap {A = Fit} (λ f. f .refusal) (record { refusal = 6; heads = 0; triples = 0 }) (record { refusal = 7; heads = 0; triples = 0 }) (record { refusal = 0; heads = headsOf m; triples = triplesOf m }) ∙ ap (λ (f : Fit). f .refusal) (sym e)
+
+    pub is-invalid : f .refusal ≡ 6 → {A : Type 0} (a b c : A) → tested m h t a b c ≡ a
+    is-invalid r {A} a b c = go (valid m) (ltb h (headsOf m)) (ltb t (triplesOf m)) (number ∙ r)
+      where
+        go : (x y z : Bool) → _≡_ {A = ℕ} (pick x (pick y 7 (pick z 7 0)) 6) 6 → pick x (pick y b (pick z b c)) a ≡ a
+        go false y z k = refl
+        go true true z k = absurd (omega arith)
+        go true false true k = absurd (omega arith)
+        go true false false k = absurd (omega arith)
+
+    pub is-short : f .refusal ≡ 7 → {A : Type 0} (a b c : A) → tested m h t a b c ≡ b
+    is-short r {A} a b c = go (valid m) (ltb h (headsOf m)) (ltb t (triplesOf m)) (number ∙ r)
+      where
+        go : (x y z : Bool) → _≡_ {A = ℕ} (pick x (pick y 7 (pick z 7 0)) 6) 7 → pick x (pick y b (pick z b c)) a ≡ b
+        go false y z k = absurd (omega arith)
+        go true true z k = refl
+        go true false true k = refl
+        go true false false k = absurd (omega arith)
+
+    module _ (p : f .refusal ≡ 6 → ⊥) (q : f .refusal ≡ 7 → ⊥) where
+      pub is-well : Fits m h t
+      is-well = go (valid m) refl (ltb h (headsOf m)) refl (ltb t (triplesOf m)) refl number
+        where
+          go : (x : Bool) → valid m ≡ x → (y : Bool) → ltb h (headsOf m) ≡ y → (z : Bool) → ltb t (triplesOf m) ≡ z → _≡_ {A = ℕ} (pick x (pick y 7 (pick z 7 0)) 6) (f .refusal) → Fits m h t
+          go false v y i z j k = absurd (p (sym k))
+          go true v true i z j k = absurd (q (sym k))
+          go true v false i true j k = absurd (q (sym k))
+          go true v false i false j k = record { valid-model = rw v tt; heads-there = ltb-false _ _ i; triples-there = ltb-false _ _ j }
+
+      is-fit : f ≡ record { refusal = 0; heads = headsOf m; triples = triplesOf m }
+      is-fit = e ∙ tested-well is-well _ _ _
+
+      pub heads-are : f .heads ≡ headsOf m
+      heads-are = ap (λ f. f .heads) is-fit
+
+      pub triples-are : f .triples ≡ triplesOf m
+      triples-are = ap (λ f. f .triples) is-fit

@@ -1,0 +1,30 @@
+-- What a call with a model and a table tests first: the record (refusal 6), then the length of the two arrays (7). Assumes nothing.
+use Prim.Native.Nat.{ℕ, _*_, _≤_}
+use lib.Dec.{T, ltb}
+use Rattle.text.specs.Split.{pick}
+use Rattle.model.specs.declared.Model.{Model}
+use Rattle.model.specs.Valid.{valid}
+use Rattle.fitting.specs.declared.Fit.{Fit}
+
+-- how many heads and triples a model has
+abbrev pub headsOf : Model → ℕ
+headsOf m = m .states * m .symbols
+
+abbrev pub triplesOf : Model → ℕ
+triplesOf m = m .states * m .symbols * m .states
+
+-- one of three, for arrays of so many cells: the record is not valid, an array is too short, or neither
+abbrev pub tested : {A : Type 0} → Model → (heads triples : ℕ) → (invalid short well : A) → A
+tested m heads triples invalid short well =
+    pick (valid m) (pick (ltb heads (headsOf m)) short (pick (ltb triples (triplesOf m)) short well)) invalid
+
+-- the number of the refusal, or the numbers of cells
+abbrev pub fitOf : Model → (heads triples : ℕ) → Fit
+fitOf m heads triples =
+    tested m heads triples (record { refusal = 6; heads = 0; triples = 0 }) (record { refusal = 7; heads = 0; triples = 0 }) (record { refusal = 0; heads = headsOf m; triples = triplesOf m })
+
+-- the model is valid, and arrays of so many cells are long enough for its table
+pub record Fits (m : Model) (heads triples : ℕ) : Type 0 where
+  pub valid-model : T (valid m)
+  pub heads-there : headsOf m ≤ heads
+  pub triples-there : triplesOf m ≤ triples

@@ -1,0 +1,2 @@
+-- Laws of the rank of a fact.
+pub mod Faults

@@ -1,0 +1,2 @@
+-- The rank of a fact, or why it is refused. Assumes nothing.
+pub mod Rank

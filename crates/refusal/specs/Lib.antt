@@ -1,0 +1,2 @@
+-- The line of a refusal, as bytes. Assumes nothing.
+pub mod Refusal

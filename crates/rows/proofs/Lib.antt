@@ -1,0 +1,3 @@
+-- Laws of the lines of a listing.
+pub mod Steps
+pub mod Lines

@@ -1,0 +1,82 @@
+-- `rows::take_line` meets its contract. Assumes nothing.
+use Rattle.rows.proofs.Steps.{by-safe, by-head, by-triple, by-other}
+use borrow.Author.Needs.{needs}
+use Rattle.rows.proofs.take_line.Statement.{statement}
+use Rattle.rows.proofs.take_line.Tie as tie
+
+listed-requires : tie.Need-listed-requires
+listed-requires c κs = search needs
+
+array-read-take-safe : tie.Need-array-read-take-safe
+array-read-take-safe c = search needs
+
+array-read-take-safe-2 : tie.Need-array-read-take-safe-2
+array-read-take-safe-2 c = search needs
+
+array-read-take-safe-3 : tie.Need-array-read-take-safe-3
+array-read-take-safe-3 c = search needs
+
+take-safe-requires : tie.Need-take-safe-requires
+take-safe-requires c κs = search needs
+
+returns : tie.Need-returns
+returns c = by-safe (c .before .before .before .before .before .args .size) (c .before .before .before .before .before .args .s) (c .before .before .before .before .before .args .l) (c .before .before .listed .ensures) (c .before .if1 .taken) (c .take-safe .ensures)
+
+array-read-take-head : tie.Need-array-read-take-head
+array-read-take-head c = search needs
+
+array-read-take-head-2 : tie.Need-array-read-take-head-2
+array-read-take-head-2 c = search needs
+
+array-read-take-head-3 : tie.Need-array-read-take-head-3
+array-read-take-head-3 c = search needs
+
+take-head-requires : tie.Need-take-head-requires
+take-head-requires c κs = search needs
+
+returns-2 : tie.Need-returns-2
+returns-2 c = by-head (c .before .before .before .before .before .before .args .size) (c .before .before .before .before .before .before .args .s) (c .before .before .before .before .before .before .args .l) (c .before .before .before .listed .ensures) (c .before .if2 .taken) (c .take-head .ensures)
+
+array-read-take-triple : tie.Need-array-read-take-triple
+array-read-take-triple c = search needs
+
+array-read-take-triple-2 : tie.Need-array-read-take-triple-2
+array-read-take-triple-2 c = search needs
+
+array-read-take-triple-3 : tie.Need-array-read-take-triple-3
+array-read-take-triple-3 c = search needs
+
+array-read-take-triple-4 : tie.Need-array-read-take-triple-4
+array-read-take-triple-4 c = search needs
+
+take-triple-requires : tie.Need-take-triple-requires
+take-triple-requires c κs = search needs
+
+returns-3 : tie.Need-returns-3
+returns-3 c = by-triple (c .before .before .before .before .before .before .before .args .size) (c .before .before .before .before .before .before .before .args .s) (c .before .before .before .before .before .before .before .args .l) (c .before .before .before .before .listed .ensures) (c .before .if3 .taken) (c .take-triple .ensures)
+
+returns-4 : tie.Need-returns-4
+returns-4 c = by-other (c .before .before .before .before .before .before .args .size) (c .before .before .before .before .before .before .args .s) (c .before .before .before .before .before .before .args .l) (c .before .before .before .listed .ensures) (c .before .before .if1 .left) (c .before .if2 .left) (c .if3 .left)
+
+pub take-line-spec : {M : Type 1} → statement M
+take-line-spec =
+    tie.close
+    (tie.spec
+    listed-requires
+    array-read-take-safe
+    array-read-take-safe-2
+    array-read-take-safe-3
+    take-safe-requires
+    returns
+    array-read-take-head
+    array-read-take-head-2
+    array-read-take-head-3
+    take-head-requires
+    returns-2
+    array-read-take-triple
+    array-read-take-triple-2
+    array-read-take-triple-3
+    array-read-take-triple-4
+    take-triple-requires
+    returns-3
+    returns-4)

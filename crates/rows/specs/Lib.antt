@@ -1,0 +1,2 @@
+-- What the lines of a listing do. Assumes nothing.
+pub mod Lines

@@ -1,0 +1,161 @@
+-- What the lines of a listing do, one after another. Assumes nothing.
+use mathlib.Core.List.{List, [], _∷_}
+use Prim.Native.Nat.{ℕ, _+_, _≤_}
+use lib.Dec.{eqb, ltb}
+use lib.ListN.{length, getD, replicate}
+use Rattle.text.specs.Split.{pick, first, later, split}
+use Rattle.product.specs.Table.{absent}
+use Rattle.table.specs.declared.Size.{Size}
+use Rattle.table.specs.Cells.{putHead, putTriple}
+use Rattle.ranking.specs.Rank.{largest, headFault, tripleFault}
+use Rattle.line.specs.Line.{lineOf}
+use Rattle.line.specs.declared.Line.{Line}
+use Rattle.line.specs.declared.Word.{Word}
+use Rattle.line.specs.declared.Word.the-variants as W
+use Rattle.rows.specs.declared.State.{State}
+use Rattle.rows.specs.declared.Step.{Step}
+use Rattle.rows.specs.declared.Ended.{Ended}
+
+-- before the first line
+unfoldable pub startState : State
+startState = record {
+  begun = 0;
+  rounds = 0;
+  headcount = 0;
+  triplecount = 0;
+  heads = 0;
+  triples = 0;
+  headcells = replicate 256 absent;
+  triplecells = replicate 2048 absent;
+}
+
+-- a line that is refused changes nothing
+abbrev pub refuse : ℕ → State → Step
+refuse n s = record { refusal = n; state = s }
+
+abbrev pub goes : State → Step
+goes s = record { refusal = 0; state = s }
+
+-- the state with its header; with one head or one triple more
+abbrev pub withHeader : State → (rounds heads triples : ℕ) → State
+withHeader s a b c = record {
+  begun = 1;
+  rounds = a;
+  headcount = b;
+  triplecount = c;
+  heads = s .heads;
+  triples = s .triples;
+  headcells = s .headcells;
+  triplecells = s .triplecells;
+}
+
+abbrev pub headsBy : State → (cells : List ℕ) → State
+headsBy s cells = record {
+  begun = s .begun;
+  rounds = s .rounds;
+  headcount = s .headcount;
+  triplecount = s .triplecount;
+  heads = s .heads + 1;
+  triples = s .triples;
+  headcells = cells;
+  triplecells = s .triplecells;
+}
+
+abbrev pub triplesBy : State → (cells : List ℕ) → State
+triplesBy s cells = record {
+  begun = s .begun;
+  rounds = s .rounds;
+  headcount = s .headcount;
+  triplecount = s .triplecount;
+  heads = s .heads;
+  triples = s .triples + 1;
+  headcells = s .headcells;
+  triplecells = cells;
+}
+
+abbrev pub withHead : Size → State → (q g rank : ℕ) → State
+withHead z s q g n = headsBy s (putHead (z .symbols) (z .states) (s .headcells) q g n)
+
+abbrev pub withTriple : Size → State → (q g e rank : ℕ) → State
+withTriple z s q g e n = triplesBy s (putTriple (z .symbols) (z .states) (s .triplecells) q g e n)
+
+-- `safe` rounds heads triples: once, and the rounds in range
+unfoldable pub safeStep : State → (a b c : ℕ) → Step
+safeStep s a b c = pick (eqb (s .begun) 0) (pick (ltb largest a) (refuse 4 s) (goes (withHeader s a b c))) (refuse 3 s)
+
+-- by the number of the fault
+abbrev pub unless : ℕ → State → State → Step
+unless fault s next = pick (eqb fault 0) (goes next) (refuse fault s)
+
+-- `head` state symbol rank
+unfoldable pub headStep : Size → State → (q g rank : ℕ) → Step
+headStep z s q g n =
+    unless (headFault z (s .begun) (s .headcells) q g n) s (withHead z s q g n)
+
+-- `erase` state symbol endstate rank
+unfoldable pub tripleStep : Size → State → (q g e rank : ℕ) → Step
+tripleStep z s q g e n =
+    unless (tripleFault z (s .begun) (s .triplecells) q g e n) s (withTriple z s q g e n)
+
+-- the words of a listing by number, 0 for any other
+abbrev pub listed : Word → ℕ
+listed W.Safe = 1
+listed W.Head = 2
+listed W.Erase = 3
+listed W.Size = 0
+listed W.Start = 0
+listed W.Final = 0
+listed W.Event = 0
+listed W.Exit = 0
+listed W.Direct = 0
+listed W.Call = 0
+listed W.Move = 0
+listed W.Malformed = 0
+
+-- what a line does, by its word and its numbers
+abbrev pub stepBy : Size → State → (kind a b c d : ℕ) → Step
+stepBy z s kind a b c d =
+    pick (eqb kind 1) (safeStep s a b c)
+    (pick (eqb kind 2) (headStep z s a b c)
+    (pick (eqb kind 3) (tripleStep z s a b c d)
+    (refuse 2 s)))
+
+unfoldable pub stepOf : Size → State → Line → Step
+stepOf z s l = stepBy z s (listed (l .word)) (getD (l .numbers .at) 0 0) (getD (l .numbers .at) 1 0) (getD (l .numbers .at) 2 0) (getD (l .numbers .at) 3 0)
+
+-- the reading has ended: refused with a number and a line, or 0 and 0
+abbrev pub ends : ℕ → ℕ → State → Ended
+ends n line s = record { refusal = n; line = line; state = s }
+
+-- there was a header, and its two counts are the numbers of lines
+unfoldable pub agreement : (begun heads headcount triples triplecount : ℕ) → ℕ
+agreement begun heads headcount triples triplecount = pick (eqb begun 0) 3 (pick (eqb heads headcount) (pick (eqb triples triplecount) 0 3) 3)
+
+-- after the last line
+abbrev pub finished : State → Ended
+finished s = ends (agreement (s .begun) (s .heads) (s .headcount) (s .triples) (s .triplecount)) 0 s
+
+-- line n, which is l, and those after it: what stands behind the last line feed is no line, and must be empty
+unfoldable pub readFrom : Size → ℕ → State → List ℕ → List (List ℕ) → Ended
+readFrom z n s l [] = pick (ltb 0 (length l)) (ends 2 n s) (finished s)
+readFrom z n s l (k ∷ ls) =
+    pick (eqb (stepOf z s (lineOf (split 9 l)) .refusal) 0)
+    (readFrom z (n + 1) (stepOf z s (lineOf (split 9 l)) .state) k ls)
+    (ends (stepOf z s (lineOf (split 9 l)) .refusal) n s)
+
+-- the lines of a text, from line n on
+abbrev pub readLines : Size → ℕ → State → List ℕ → Ended
+readLines z n s text = readFrom z n s (first 10 text) (later 10 text)
+
+-- the most bytes of a listing
+abbrev pub longest : ℕ
+longest = 45056
+
+-- a whole text from its first line on, unless it is too long
+abbrev pub readText : Size → List ℕ → Ended
+readText z text = pick (ltb longest (length text)) (ends 1 0 startState) (readLines z 1 startState text)
+
+-- the counts of lines are not so large that one more could wrap
+pub record Counted (s : State) : Type 0 where
+  pub heads : s .heads ≤ 50000
+  pub triples : s .triples ≤ 50000
