@@ -1,9 +1,14 @@
 -- Each contract of the other calls allows one outcome: two things equal to a third are equal. Assumes nothing.
+use mathlib.Core.Bool.{Bool}
 use mathlib.Core.List.{List}
 use mathlib.Core.Path.{_≡_, sym, ap, _∙_}
 use Prim.Native.Nat.{ℕ}
-use Rattle.print.specs.Put.{Put}
-use Rattle.rounds.specs.Round.{Arrays, arrays}
+use Rattle.text.specs.Put.{Put}
+use Rattle.ways.specs.Taken.{Arrays, arrays}
+use Rattle.model.specs.declared.Model.{Model}
+use Rattle.ranking.specs.Rank.{Ranked}
+use Rattle.refusal.specs.declared.Seen.{Seen}
+use Rattle.refusal.specs.Refusal.{Seeing}
 use Rattle.claims.specs.OneAnswer.{One, Both, OneAnswer}
 
 equal : {A : Type 0} (x : A) → One (λ r. r ≡ x)
@@ -17,6 +22,19 @@ put out at s r r′ after after′ a b = (a .place ∙ sym (b .place), a .cells 
 cells : (c : Arrays) → Both (λ hs ts. arrays hs ts ≡ c)
 cells c hs hs′ ts ts′ e e′ = (ap (λ c. c .0) (e ∙ sym e′), ap (λ c. c .1) (e ∙ sym e′))
 
+-- a fact's cell
+ranked : (before : List ℕ) (fault : ℕ) (put : List ℕ) → Both (λ r after. Ranked before after fault put r)
+ranked before fault put r r′ after after′ a b = (a .answers ∙ sym (b .answers), a .leaves ∙ sym (b .leaves))
+
+-- a text read, and its refusal put
+seen-eq : {a a′ : Bool} {n n′ : ℕ} {m m′ : Model} → a ≡ a′ → n ≡ n′ → m ≡ m′ → _≡_ {A = Seen} (record { accepted = a; end = n; model = m }) (record { accepted = a′; end = n′; model = m′ })
+seen-eq {a} {a′} {n} {n′} {m} {m′} e f g =
+    ap (λ (x : Bool). record { accepted = x; end = n; model = m }) e ∙ ap (λ (x : ℕ). record { accepted = a′; end = x; model = m }) f
+    ∙ ap (λ (x : Model). record { accepted = a′; end = n′; model = x }) g
+
+seeing : (text out : List ℕ) → Both (λ r after. Seeing text out after r)
+seeing text out r r′ after after′ a b = (seen-eq (a .accepts ∙ sym (b .accepts)) (a .puts .place ∙ sym (b .puts .place)) (a .reads ∙ sym (b .reads)), a .puts .cells ∙ sym (b .puts .cells))
+
 pub each-answer : OneAnswer
 each-answer = record {
   find = λ s c. equal _;
@@ -29,10 +47,21 @@ each-answer = record {
   put-head = λ z heads q g n. equal _;
   put-triple = λ z triples q g e n. equal _;
   clear = λ cells n. equal _;
+  head-count = λ z. equal _;
+  triple-count = λ z. equal _;
+  long-enough = λ z heads triples. equal _;
+  culprit = λ finals z heads triples s a. equal _;
+  is-clean = λ finals z heads triples s a. equal _;
   is-valid = λ m. equal _;
   rule-at = λ rulerows r. equal _;
   next-state = λ rulerows moverows shows r v q. equal _;
   read-line = λ s. equal _;
+  refusal-of = λ k w a b c. equal _;
+  take-line = λ d l. equal _;
+  measure = λ m heads triples. equal _;
+  rank-head = λ z begun cells q g rank. ranked cells _ _;
+  rank-triple = λ z begun cells q g e rank. ranked cells _ _;
+  read-text = λ z text. equal _;
   listing-of = λ text. equal _;
   model-part = λ text. equal _;
   place = λ n at. equal _;
@@ -42,11 +71,15 @@ each-answer = record {
   put-fields = λ out at numbers. put out at _;
   put-line = λ out at word numbers. put out at _;
   put-named = λ out at word numbers last. put out at _;
-  head-count = λ z. equal _;
-  triple-count = λ z. equal _;
+  has-head = λ z heads q g. equal _;
+  next-kept = λ z heads triples q ρ n. equal _;
+  consequences = λ z ρ q p k heads triples hs hs′ ts ts′ e e′. cells _ hs hs′ ts ts′ (e (record { by-rule = 0; by-move = 0 })) (e′ (record { by-rule = 0; by-move = 0 }));
   start = λ m heads triples. cells _;
   round = λ m k heads triples. cells _;
+  explain = λ rules moves shows heads triples n f. equal _;
   front = λ out k. equal _;
+  put-violation = λ m whole rounds count out steps. put out 0 _;
+  read-or-refuse = λ text out. seeing text out;
   put-refused = λ out number line. put out 0 _;
   check-text = λ out text. put out 0 _;
   recheck-text = λ out text. put out 0 _;

@@ -3,24 +3,47 @@
 use mathlib.Core.Bool.{Bool}
 use mathlib.Core.List.{List, [], _∷_}
 use mathlib.Core.Path.{_≡_}
-use Prim.Native.Nat.{ℕ, _*_}
+use Prim.Native.Nat.{ℕ}
 use lib.ListN.{length, take}
-use Rattle.product.specs.Lists.{over}
+use Rattle.product.specs.Lists.{over, upTo}
+use Rattle.product.specs.Product.{Step}
+use Rattle.product.specs.Facts.{head, consequences}
 use Rattle.text.specs.Split.{first, split, sameBytes}
 use Rattle.text.specs.Number.{numberOf, numbersOf}
 use Rattle.text.specs.Digits.{digitsOf}
 use Rattle.table.specs.declared.Size.{Size}
-use Rattle.table.specs.Cells.{headIn, tripleIn, putHead, putTriple, cleared}
+use Rattle.table.specs.Cells.{headCount, tripleCount, longEnough, headIn, tripleIn, putHead, putTriple, cleared, view}
+use Rattle.culprit.specs.declared.Goal.{Goal}
+use Rattle.culprit.specs.Culprit.{goalAs, culpritIn, cleanIn}
 use Rattle.model.specs.declared.Model.{Model}
-use Rattle.model.specs.Answers.{ruleAs, nextAs}
+use Rattle.model.specs.declared.Rule.{Rule}
+use Rattle.model.specs.declared.Next.{Next}
+use Rattle.model.specs.Answers.{ruleAs, nextAs, meant, landed}
 use Rattle.model.specs.Model.{ruleAt, nextAt}
 use Rattle.model.specs.Valid.{valid}
+use Rattle.line.specs.declared.Word.{Word}
+use Rattle.line.specs.declared.Line.{Line}
 use Rattle.line.specs.Line.{lineOf}
+use Rattle.limits.specs.declared.Counts as limits
+use Rattle.limits.specs.Limits.{refusal, tests}
+use Rattle.draft.specs.declared.Draft.{Draft}
+use Rattle.draft.specs.Lines.{takeLine}
+use Rattle.fitting.specs.Fits.{fitOf}
+use Rattle.ranking.specs.Rank.{headFault, tripleFault, Ranked}
+use Rattle.rows.specs.Lines.{readText}
 use Rattle.splitter.specs.Part.{listingOf, modelPart}
 use Rattle.print.specs.Bytes.{fieldBytes, lineBytes, namedBytes}
-use Rattle.print.specs.Put.{placeIn, Put}
-use Rattle.rounds.specs.Round.{arrays, startOf, roundOf}
-use Rattle.report.specs.Output.{refusedBytes, checkOutput}
+use Rattle.text.specs.Put.{placeIn, Put}
+use Rattle.kept.specs.Kept.{inTable, nextKept}
+use Rattle.ways.specs.Taken.{arrays, allTaken}
+use Rattle.rounds.specs.Round.{startOf, roundOf}
+use Rattle.explain.specs.declared.Counts.{Counts}
+use Rattle.explain.specs.Answers.{foundAs, rankOf}
+use Rattle.explain.specs.Search.{whyIn, byRank}
+use Rattle.violation.specs.Bytes.{shown, violationBytes}
+use Rattle.refusal.specs.declared.Seen.{Seen}
+use Rattle.refusal.specs.Refusal.{refusedBytes, Seeing}
+use Rattle.report.specs.Output.{checkOutput}
 use Rattle.rereport.specs.Output.{recheckOutput}
 
 -- one outcome: an answer, or what is left in lent memory
@@ -44,12 +67,28 @@ pub record OneAnswer : Type 0 where
   pub put-head : (z : Size) (heads : List ℕ) (q g n : ℕ) → One (λ after. after ≡ putHead (z .symbols) (z .states) heads q g n)
   pub put-triple : (z : Size) (triples : List ℕ) (q g e n : ℕ) → One (λ after. after ≡ putTriple (z .symbols) (z .states) triples q g e n)
   pub clear : (cells : List ℕ) (n : ℕ) → One (λ after. after ≡ cleared n cells)
+  pub head-count : (z : Size) → One (λ n. n ≡ headCount (z .symbols) (z .states))
+  pub triple-count : (z : Size) → One (λ n. n ≡ tripleCount (z .symbols) (z .states))
+  pub long-enough : (z : Size) (heads triples : List ℕ) → One (λ b. b ≡ longEnough (z .symbols) (z .states) (length heads) (length triples))
+  -- culprit
+  pub culprit : (finals : List Bool) (z : Size) (heads triples : List ℕ) (s a : ℕ) → One (λ f. f ≡ goalAs (culpritIn finals (z .symbols) (z .states) heads triples s a))
+  pub is-clean : (finals : List Bool) (z : Size) (heads triples : List ℕ) (s a : ℕ) → One (λ b. b ≡ cleanIn finals (z .symbols) (z .states) heads triples s a)
   -- model
   pub is-valid : (m : Model) → One (λ b. b ≡ valid m)
   pub rule-at : (rulerows : List ℕ) (r : ℕ) → One (λ ρ. ρ ≡ ruleAs (ruleAt rulerows r))
   pub next-state : (rulerows moverows : List ℕ) (shows : List Bool) (r v q : ℕ) → One (λ n. n ≡ nextAs (nextAt rulerows moverows shows r v q))
   -- line
   pub read-line : (s : List ℕ) → One (λ r. r ≡ lineOf (split 9 s))
+  -- limits and draft
+  pub refusal-of : (k : limits.Counts) (w : Word) (a b c : ℕ) → One (λ r. r ≡ refusal (tests k w a b c))
+  pub take-line : (d : Draft) (l : Line) → One (λ r. r ≡ takeLine d l)
+  -- fitting, ranking and rows
+  pub measure : (m : Model) (heads triples : ℕ) → One (λ r. r ≡ fitOf m heads triples)
+  pub rank-head : (z : Size) (begun : ℕ) (cells : List ℕ) (q g rank : ℕ)
+      → Both (λ r after. Ranked cells after (headFault z begun cells q g rank) (putHead (z .symbols) (z .states) cells q g rank) r)
+  pub rank-triple : (z : Size) (begun : ℕ) (cells : List ℕ) (q g e rank : ℕ)
+      → Both (λ r after. Ranked cells after (tripleFault z begun cells q g e rank) (putTriple (z .symbols) (z .states) cells q g e rank) r)
+  pub read-text : (z : Size) (text : List ℕ) → One (λ r. r ≡ readText z text)
   -- splitter
   pub listing-of : (text : List ℕ) → One (λ part. part ≡ listingOf text)
   pub model-part : (text : List ℕ) → One (λ part. part ≡ modelPart text)
@@ -61,14 +100,23 @@ pub record OneAnswer : Type 0 where
   pub put-fields : (out : List ℕ) (at : ℕ) (numbers : List ℕ) → Both (λ r after. Put out after at r (over numbers fieldBytes))
   pub put-line : (out : List ℕ) (at : ℕ) (word numbers : List ℕ) → Both (λ r after. Put out after at r (lineBytes word numbers))
   pub put-named : (out : List ℕ) (at : ℕ) (word numbers last : List ℕ) → Both (λ r after. Put out after at r (namedBytes word numbers last))
-  -- rounds
-  pub head-count : (z : Size) → One (λ n. n ≡ z .states * z .symbols)
-  pub triple-count : (z : Size) → One (λ n. n ≡ z .states * z .symbols * z .states)
+  -- kept
+  pub has-head : (z : Size) (heads : List ℕ) (q g : ℕ) → One (λ b. b ≡ inTable z heads [] (head q g))
+  pub next-kept : (z : Size) (heads triples : List ℕ) (q : ℕ) (ρ : Rule) (n : Next) → One (λ b. b ≡ nextKept (z .states) (inTable z heads triples) q (meant ρ) (landed n))
+  -- ways and rounds; a way is the same whatever step it is for
+  pub consequences : (z : Size) (ρ : Rule) (q p k : ℕ) (heads triples : List ℕ)
+      → Both (λ hs ts. (s : Step) → arrays hs ts ≡ allTaken z k (consequences (upTo (z .states)) s q p (meant ρ)) (arrays heads triples))
   pub start : (m : Model) (heads triples : List ℕ) → Both (λ hs ts. arrays hs ts ≡ startOf m (arrays heads triples))
   pub round : (m : Model) (k : ℕ) (heads triples : List ℕ) → Both (λ hs ts. arrays hs ts ≡ roundOf m k (arrays heads triples))
+  -- explain
+  pub explain : (rules moves : List ℕ) (shows : List Bool) (heads triples : List ℕ) (n : Counts) (f : Goal)
+      → One (λ w. w ≡ foundAs (byRank (whyIn rules moves shows (n .size .symbols) (n .size .states) heads triples (n .rules) (n .moves)) f (rankOf (view (n .size .symbols) (n .size .states) heads triples) f)))
   -- output
   pub front : (out : List ℕ) (k : ℕ) → One (λ part. part ≡ take k out)
-  -- report and rereport
+  -- violation, refusal, report and rereport
+  pub put-violation : (m : Model) (whole : Bool) (rounds count : ℕ) (out steps : List ℕ)
+      → Both (λ r after. Put out after 0 r (violationBytes m whole rounds steps (shown (length steps) count)))
   pub put-refused : (out : List ℕ) (number line : ℕ) → Both (λ r after. Put out after 0 r (refusedBytes number line))
+  pub read-or-refuse : (text out : List ℕ) → Both (λ r after. Seeing text out after r)
   pub check-text : (out text : List ℕ) → Both (λ r after. Put out after 0 r (checkOutput text))
   pub recheck-text : (out text : List ℕ) → Both (λ r after. Put out after 0 r (recheckOutput text))

@@ -1,17 +1,18 @@
 -- What a call with a model and a table tests first: the record (refusal 6), then the length of the two arrays (7). Assumes nothing.
-use Prim.Native.Nat.{ℕ, _*_, _≤_}
+use Prim.Native.Nat.{ℕ, _≤_}
 use lib.Dec.{T, ltb}
 use Rattle.text.specs.Split.{pick}
+use Rattle.table.specs.Cells.{headCount, tripleCount}
 use Rattle.model.specs.declared.Model.{Model}
 use Rattle.model.specs.Valid.{valid}
 use Rattle.fitting.specs.declared.Fit.{Fit}
 
 -- how many heads and triples a model has
 abbrev pub headsOf : Model → ℕ
-headsOf m = m .states * m .symbols
+headsOf m = headCount (m .symbols) (m .states)
 
 abbrev pub triplesOf : Model → ℕ
-triplesOf m = m .states * m .symbols * m .states
+triplesOf m = tripleCount (m .symbols) (m .states)
 
 -- one of three, for arrays of so many cells: the record is not valid, an array is too short, or neither
 abbrev pub tested : {A : Type 0} → Model → (heads triples : ℕ) → (invalid short well : A) → A

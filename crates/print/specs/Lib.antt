@@ -1,3 +1,2 @@
--- Lines as bytes, and bytes put into lent memory. Assumes nothing.
+-- Lines as bytes. Assumes nothing.
 pub mod Bytes
-pub mod Put

@@ -4,7 +4,7 @@ ghost use mathlib.Core.Path.{_≡_};
 ghost use mathlib.Core.List.{[], _∷_};
 ghost use Rattle.product.specs.Lists.{over};
 ghost use Rattle.print.specs.Bytes.{fieldBytes, lineBytes, namedBytes};
-ghost use Rattle.print.specs.Put.{placeIn, Put};
+ghost use Rattle.text.specs.Put.{placeIn, Put};
 
 // The place in n bytes, or the one that says that something was cut.
 pub fn place(n: usize, at: usize) -> usize

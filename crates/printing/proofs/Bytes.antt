@@ -15,8 +15,8 @@ use Rattle.product.specs.Table.{absent}
 use Rattle.product.proofs.Lists.{over-suc}
 use Rattle.printing.specs.Listing.{lineBytes, presentIn, cellBytes, ifPresent, cellsBytes}
 use Rattle.printing.specs.declared.Kind.{Kind}
-use Rattle.print.specs.Put.{placeIn, Put}
-use Rattle.print.proofs.Puts.{none-put, then-put, as-put}
+use Rattle.text.specs.Put.{placeIn, Put}
+use Rattle.text.proofs.Puts.{none-put, then-put, as-put}
 
 -- one cell more
 module _ (cells : List ℕ) (i : ℕ) where

@@ -8,7 +8,7 @@ use lib.ListN.{length, getD, List·getD-append}
 use Rattle.text.specs.Split.{pick}
 use Rattle.product.specs.Lists.{upTo, over}
 use Rattle.product.specs.Table.{absent}
-use Rattle.print.proofs.Puts.{over-same}
+use Rattle.product.proofs.Lists.{over-alike}
 use Rattle.printing.specs.declared.Kind.{Kind}
 use Rattle.printing.specs.Listing.{ifPresent, presentIn, cellsBytes, headerBytes, listingBytes}
 
@@ -19,13 +19,13 @@ module _ (a b : List ℕ) (n : ℕ) (e : length a ≡ n) where
   present-front : presentIn (a ++ b) n ≡ presentIn a n
   unfolding presentIn
   present-front =
-      over-same n (λ i. pick (eqb (getD (a ++ b) i 0) absent) [] (i ∷ [])) (λ i. pick (eqb (getD a i 0) absent) [] (i ∷ []))
+      over-alike n (λ i. pick (eqb (getD (a ++ b) i 0) absent) [] (i ∷ [])) (λ i. pick (eqb (getD a i 0) absent) [] (i ∷ []))
       (λ i l. ap (λ x. pick (eqb x absent) [] (i ∷ [])) (front i l))
 
   cells-front : (kind : Kind) (G Q : ℕ) → cellsBytes kind G Q (a ++ b) n ≡ cellsBytes kind G Q a n
   unfolding cellsBytes
   cells-front kind G Q =
-      over-same n (λ i. ifPresent kind G Q i (getD (a ++ b) i 0)) (λ i. ifPresent kind G Q i (getD a i 0))
+      over-alike n (λ i. ifPresent kind G Q i (getD (a ++ b) i 0)) (λ i. ifPresent kind G Q i (getD a i 0))
       (λ i l. ap (ifPresent kind G Q i) (front i l))
 
 -- whatever stands behind the table in the arrays

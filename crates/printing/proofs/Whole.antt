@@ -24,8 +24,8 @@ use Rattle.fitting.specs.declared.Fit.{Fit}
 use Rattle.fitting.specs.Fits.{fitOf, Fits}
 use Rattle.fitting.proofs.Tested.{cells-fit, heads-are, triples-are, is-invalid, is-short, is-well, tested-well}
 use Rattle.printing.proofs.Bytes.{line-short}
-use Rattle.print.specs.Put.{Put}
-use Rattle.print.proofs.Puts.{as-put, then-put, put-length}
+use Rattle.text.specs.Put.{Put}
+use Rattle.text.proofs.Puts.{as-put, then-put, put-length}
 
 -- no more cells are present than there are
 pub present-few : (cells : List ℕ) (n : ℕ) → length (presentIn cells n) ≤ n

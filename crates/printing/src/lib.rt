@@ -2,7 +2,7 @@
 ghost use mathlib.Core.Path.{_≡_};
 ghost use Prim.Native.Nat.{ℕ, _≤_};
 ghost use lib.ListN.{length};
-ghost use Rattle.print.specs.Put.{Put};
+ghost use Rattle.text.specs.Put.{Put};
 ghost use Rattle.printing.specs.Listing.{cellBytes, ifPresent, presentIn, cellsBytes, headerBytes, listingBytes};
 ghost use Rattle.printing.specs.declared.Kind.the-variants.{Head, Triple};
 ghost use Rattle.printing.specs.Writing.{Writes, Cell, Rows, Counts, Whole};

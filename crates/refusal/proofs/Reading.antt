@@ -12,8 +12,8 @@ use Rattle.text.specs.Split.{pick, first, later, split}
 use Rattle.line.specs.Line.{lineOf}
 use Rattle.model.specs.declared.Model.{Model}
 use Rattle.model.specs.Valid.{valid}
-use Rattle.print.specs.Put.{Put}
-use Rattle.print.proofs.Puts.{as-put, none-put}
+use Rattle.text.specs.Put.{Put}
+use Rattle.text.proofs.Puts.{as-put, none-put}
 use Rattle.draft.specs.declared.Draft.{Draft}
 use Rattle.reader.specs.declared.ModelRead.{ModelRead}
 use Rattle.reader.proofs.Accepted.{accepted-valid}

@@ -7,7 +7,7 @@ use Rattle.reader.specs.declared.Reading.{Reading}
 use Rattle.reader.specs.declared.Reading.the-variants.{Accepted, TooLong, Malformed, Misplaced, OutOfRange, TooMany}
 use Rattle.reader.specs.Text.{readModel}
 use Rattle.print.specs.Bytes.{lineBytes}
-use Rattle.print.specs.Put.{Put}
+use Rattle.text.specs.Put.{Put}
 use Rattle.refusal.specs.declared.Seen.{Seen}
 
 -- "refused"

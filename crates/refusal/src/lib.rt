@@ -2,7 +2,7 @@
 ghost use mathlib.Core.Path.{_≡_};
 ghost use mathlib.Core.List.{[]};
 ghost use Prim.Native.Nat.{ℕ, _<_};
-ghost use Rattle.print.specs.Put.{Put};
+ghost use Rattle.text.specs.Put.{Put};
 ghost use Rattle.refusal.specs.Refusal.{refusedBytes, isAccepted, lineIn, unlessRefused, Seeing};
 use model::Model;
 use reader::Reading;

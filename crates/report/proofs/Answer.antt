@@ -5,23 +5,23 @@ use mathlib.Core.List.{List, [], _∷_, _++_}
 use mathlib.Core.Option.{some}
 use mathlib.Core.Path.{_≡_, refl, ap, ap₂, sym, _∙_, subst}
 use Prim.Native.Nat.{ℕ, _+_, _*_, _<_, _≤_, min}
-use native.Mathlib.Nat.{mul-assoc, mul-le-mul}
+use native.Mathlib.Nat.{mul-le-mul}
 use native.Mathlib.Omega.{arith}
 use lib.Dec.{T, leb, ltb}
 use lib.ListN.{length, drop, length-append}
 use lib.Seq.{sets, length-sets}
 use borrow.Author.Tests.{le-leb, leb-true, leb-false, ltb-true, ltb-false, le-ltb}
 use Rattle.text.specs.Split.{pick}
-use Rattle.product.specs.Lists.{upTo, over, each}
-use Rattle.product.specs.Facts.{head, triple}
+use Rattle.product.specs.Lists.{each}
 use Rattle.product.specs.Product.{Step, stored}
 use Rattle.product.specs.Verdict.{Verdict, violation, safe, answer, bound, ran}
 use Rattle.product.specs.Table.{ranks, left}
 use Rattle.product.specs.Table as product
 use Rattle.product.specs.Trace.{traceOf}
-use Rattle.product.proofs.Lists.{T-true, length-over, length-each, length-upTo}
+use Rattle.product.proofs.Lists.{T-true, length-each, length-upTo}
 use Rattle.product.proofs.Demands.{demands}
 use Rattle.table.specs.Cells.{headsOf, triplesOf}
+use Rattle.table.proofs.ReadBack.{length-heads, length-triples}
 use Rattle.model.specs.declared.Model.{Model}
 use Rattle.model.specs.Model.{productOf}
 use Rattle.model.specs.Valid.{valid}
@@ -31,8 +31,8 @@ use Rattle.decide.specs.Decided.{verdict, headCount, tripleCount, decision, dec
 use Rattle.trace.specs.declared.Traced.{Traced}
 use Rattle.trace.specs.declared.Traced.the-variants.{Found, Invalid, Short, Safe, Cut}
 use Rattle.trace.specs.Outcome.{Answer, traced, refused, meaning, tracedBy, stepsBy, Outcome}
-use Rattle.print.specs.Put.{placeIn, Put}
-use Rattle.print.proofs.Puts.{as-put}
+use Rattle.text.specs.Put.{placeIn, Put}
+use Rattle.text.proofs.Puts.{as-put}
 use Rattle.printing.specs.declared.Written as printing
 use Rattle.printing.specs.declared.Written.the-variants as listed
 use Rattle.printing.specs.declared.Written.the-variants.{Bytes}
@@ -44,19 +44,6 @@ use Rattle.fitting.specs.Fits.{Fits}
 use Rattle.report.specs.Output.{tracedBytes, verdictBytes, answerBytes, modelOutput}
 use Rattle.report.specs.Told.{Told}
 use Rattle.printing.proofs.Front.{listing-front}
-
--- the cells of a table that is laid out
-module _ (G Q : ℕ) (t : product.Table) where
-  length-heads : length (headsOf G Q t) ≡ Q * G
-  length-heads =
-      length-over G (upTo Q) (λ q. each (upTo G) (λ g. t (head q g))) (λ q. length-each (upTo G) (λ g. t (head q g)) ∙ length-upTo G)
-      ∙ ap (λ n. n * G) (length-upTo Q)
-
-  length-triples : length (triplesOf G Q t) ≡ Q * G * Q
-  length-triples =
-      length-over (G * Q) (upTo Q) (λ q. over (upTo G) (λ g. each (upTo Q) (λ e. t (triple q g e))))
-      (λ q. length-over Q (upTo G) (λ g. each (upTo Q) (λ e. t (triple q g e))) (λ g. length-each (upTo Q) (λ e. t (triple q g e)) ∙ length-upTo Q) ∙ ap (λ n. n * Q) (length-upTo G))
-      ∙ ap (λ n. n * (G * Q)) (length-upTo Q) ∙ sym (mul-assoc Q G Q)
 
 -- the place behind a listing
 abbrev pub placeOf : printing.Written → ℕ → ℕ

@@ -7,7 +7,7 @@ ghost use Rattle.product.specs.Verdict.{bound};
 ghost use Rattle.model.specs.Model.{productOf};
 ghost use Rattle.model.specs.Valid.{valid};
 ghost use Rattle.fitting.specs.Fits.{Fits};
-ghost use Rattle.print.specs.Put.{Put};
+ghost use Rattle.text.specs.Put.{Put};
 ghost use Rattle.printing.specs.Writing.{bytesOf};
 ghost use Rattle.report.specs.Output.{modelOutput, checkOutput};
 ghost use Rattle.report.specs.Told.{Told};

@@ -19,8 +19,8 @@ use Rattle.fitting.proofs.Tested.{tested-well}
 use Rattle.recheck.specs.declared.Recheck.{Recheck}
 use Rattle.recheck.specs.declared.Recheck.the-variants as check
 use Rattle.recheck.specs.Recheck.{recheck}
-use Rattle.print.specs.Put.{Put}
-use Rattle.print.proofs.Puts.{as-put}
+use Rattle.text.specs.Put.{Put}
+use Rattle.text.proofs.Puts.{as-put}
 use Rattle.rereport.specs.Heard.{lineIn, Heard}
 use Rattle.rereport.specs.Output.{checkBytes, listingRead, listingBytes, listingOutput, recheckOutput}
 use Rattle.rereport.proofs.Small.{listing-line, listing-number, ruleIn, moveIn, numberIn, recheck-few, not-refused}

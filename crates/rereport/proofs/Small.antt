@@ -4,8 +4,7 @@ use mathlib.Core.Bool.{Bool, true, false, cond, not}
 use mathlib.Core.List.{List, [], _∷_}
 use mathlib.Core.Option.{Option, none, some}
 use mathlib.Core.Path.{_≡_, refl, subst}
-use Prim.Native.Nat.{ℕ, _+_, _*_, _<_, _≤_}
-use native.Mathlib.Nat.{mul-comm}
+use Prim.Native.Nat.{ℕ, _+_, _<_, _≤_}
 use native.Mathlib.Omega.{arith}
 use lib.Dec.{T, eqb, ltb}
 use lib.ListN.{length}
@@ -158,9 +157,7 @@ module _ (m : Model) (v : T (valid m)) where
 -- a table that fits is checked
 module _ (m : Model) (hs ts : List ℕ) (f : Fits m (length hs) (length ts)) where
   long-enough : longEnough (sizeOf m) hs ts ≡ true
-  long-enough =
-      let a : m .symbols * m .states ≡ m .states * m .symbols = mul-comm (m .symbols) (m .states) in
-      rw (a, le-leb _ _ (f .heads-there), le-leb _ _ (f .triples-there))
+  long-enough = rw (le-leb _ _ (f .heads-there), le-leb _ _ (f .triples-there))
 
   is-checked : recheck m hs ts ≡ answer (checked (productOf m) (inTable (sizeOf m) hs ts))
   unfolding recheck

@@ -3,7 +3,7 @@ ghost use lib.Dec.{T};
 ghost use lib.ListN.{length, replicate};
 ghost use Rattle.model.specs.Valid.{valid};
 ghost use Rattle.fitting.specs.Fits.{Fits};
-ghost use Rattle.print.specs.Put.{Put};
+ghost use Rattle.text.specs.Put.{Put};
 ghost use Rattle.recheck.specs.Recheck.{recheck};
 ghost use Rattle.rereport.specs.Output.{openBytes, checkBytes, listingBytes, listingOutput, recheckOutput};
 ghost use Rattle.rereport.specs.Heard.{Heard};

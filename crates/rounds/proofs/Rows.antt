@@ -1,21 +1,17 @@
 -- The ways that the code goes through, by the rows of a model, are the ways of the model's product, in their order. Assumes nothing.
 use mathlib.Core.List.{List, [], _∷_, _++_}
 use mathlib.Core.Option.{Option, none, some}
-use mathlib.Core.Path.{_≡_, refl, sym, ap, ap₂, _∙_}
+use mathlib.Core.Path.{_≡_, refl, sym, ap, _∙_}
 use Prim.Native.Nat.{ℕ, zero, suc, _<_}
 use native.Mathlib.Omega.{arith}
 use Rattle.product.specs.Lists.{upTo, over, each}
 use Rattle.product.specs.Product.{Product, Step, ruleOf}
 use Rattle.product.specs.Facts.{waysTo, waysOf, ways}
-use Rattle.product.proofs.Lists.{over-suc, over-over}
+use Rattle.product.proofs.Lists.{over-alike, over-over}
 use Rattle.model.specs.declared.Model.{Model}
 use Rattle.model.specs.Model.{nextAt, productOf}
 use Rattle.model.proofs.Steps.{next-rows}
 use Rattle.rounds.specs.Round.{waysBy, stepWays, ruleWays}
-
-over-alike : {B : Type 0} (n : ℕ) (f g : ℕ → List B) → ((i : ℕ) → i < n → f i ≡ g i) → over (upTo n) f ≡ over (upTo n) g
-over-alike zero f g h = refl
-over-alike (suc n) f g h = over-suc n f ∙ ap₂ _++_ (over-alike n f g (λ i l. h i (omega arith))) (h n (omega arith)) ∙ sym (over-suc n g)
 
 -- over each of a list's elements
 over-each : {A B C : Type 0} (xs : List A) (f : A → B) (g : B → List C) → over (each xs f) g ≡ over xs (λ x. g (f x))

@@ -7,3 +7,4 @@ pub mod Fields
 pub mod Decimals
 pub mod Back
 pub mod Cases
+pub mod Puts

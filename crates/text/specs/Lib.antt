@@ -2,3 +2,4 @@
 pub mod Split
 pub mod Number
 pub mod Digits
+pub mod Put

@@ -1,4 +1,3 @@
-pub mod Wrote
 pub mod Unfolds
 pub mod Ranked
 pub mod Write

@@ -25,10 +25,11 @@ use Rattle.explain.specs.declared.Found.the-variants.{By, Nowhere}
 use Rattle.explain.specs.Search.{byRank}
 use Rattle.explain.specs.Answers.{firstIn, secondIn, causeOf, foundAs, rankOf}
 use Rattle.culprit.specs.Culprit.{goalOf}
-use Rattle.trace.specs.Unfold.{Wrote, Explains, HeldFor, stepsFor, Unfolded}
+use Rattle.trace.specs.Unfold.{Explains, HeldFor, stepsFor, Unfolded}
 use Rattle.culprit.proofs.First.{find-elim}
 use Rattle.explain.proofs.Tried.{found-none, found-some}
-use Rattle.trace.proofs.Wrote.{wrote-none, wrote-cut, wrote-then}
+use Rattle.text.specs.Put.{Put}
+use Rattle.text.proofs.Puts.{none-put, past-put, then-put}
 use Rattle.explain.proofs.Falls.{first-of, second-of, same-cause}
 
 -- a way needs at most one head and two triples
@@ -161,23 +162,23 @@ module _ (p : Product) (n : ℕ) (t : Table) (why : ℕ → Goal → Option Way)
 -- what a call writes, by the way that it takes
 module _ (t : Table) (why : ℕ → Goal → Option Way) (f : Goal) {room : List ℕ} {at : ℕ} where
   pub unfolded-cut : length room < at → at ≤ length room + 1 → Unfolded t why f room at at room
-  unfolded-cut l i = record { within = i; steps = λ p n E h. wrote-cut (numbers p n f) l i }
+  unfolded-cut l i = record { within = i; steps = λ p n E h. past-put (numbers p n f) l i }
 
   module _ (i : at ≤ length room + 1) {d : Found} (read : d ≡ foundAs (byRank why f (rankOf t f))) where
     pub unfolded-none : d ≡ Nowhere → Unfolded t why f room at at room
     unfolded-none told = record {
       within = i;
-      steps = λ p n E h. subst⁻¹ (λ l. Wrote room at l at room) (none-numbers p n t why E f h (rankOf t f) refl read told) (wrote-none i);
+      steps = λ p n E h. subst⁻¹ (λ l. Put room room at at l) (none-numbers p n t why E f h (rankOf t f) refl read told) (none-put room at (omega arith));
     }
 
     pub unfolded-by : {c : Cause} → d ≡ By c → {r1 r2 r3 r4 : ℕ} {room1 room2 room3 room4 : List ℕ}
-        → Unfolded t why (c .before) room at r1 room1 → Wrote room1 r1 ((c .rule * 128 + c .by) ∷ []) r2 room2
+        → Unfolded t why (c .before) room at r1 room1 → Put room1 room2 r1 r2 ((c .rule * 128 + c .by) ∷ [])
         → Unfolded t why (c .first) room2 r2 r3 room3 → Unfolded t why (c .second) room3 r3 r4 room4
         → r4 ≤ length room + 1 → Unfolded t why f room at r4 room4
     unfolded-by {c} told {r4 = r4} {room4 = room4} u w v x last = record {
       within = last;
       steps = λ p n E h.
           let R : Runs p n f c = found-runs p n t why E f h (rankOf t f) refl read told in
-          subst⁻¹ (λ l. Wrote room at l r4 room4) (R .runs)
-          (wrote-then (u .steps p n E (R .before-held)) (wrote-then w (wrote-then (v .steps p n E (R .first-held)) (x .steps p n E (R .second-held)))));
+          subst⁻¹ (λ l. Put room room4 at r4 l) (R .runs)
+          (then-put (u .steps p n E (R .before-held)) (then-put w (then-put (v .steps p n E (R .first-held)) (x .steps p n E (R .second-held)))));
     }

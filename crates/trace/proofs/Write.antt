@@ -18,12 +18,13 @@ use Rattle.product.proofs.Lists.{and-right, length-each}
 use Rattle.model.specs.declared.Model.{Model}
 use Rattle.model.specs.Model.{productOf}
 use Rattle.model.proofs.Bounds.{start-state-in, start-symbol-in}
+use Rattle.text.specs.Put.{Put}
 use Rattle.table.specs.Cells.{view}
 use Rattle.culprit.specs.declared.Goal.{Goal}
 use Rattle.trace.specs.declared.Traced.the-variants.{Found, Cut}
 use Rattle.culprit.specs.Culprit.{goalOf, goalAs, culpritIn}
 use Rattle.explain.specs.Search.{whyIn}
-use Rattle.trace.specs.Unfold.{Wrote, HeldFor, stepsFor, Unfolded}
+use Rattle.trace.specs.Unfold.{HeldFor, stepsFor, Unfolded}
 use Rattle.trace.specs.Written.{Ranked, violationSteps, Written}
 use Rattle.culprit.proofs.First.{find-elim}
 use Rattle.culprit.proofs.Found.{culprit-held}
@@ -49,9 +50,9 @@ module _ (m : Model) (n : ℕ) (hs ts : List ℕ) (R : Ranked m n hs ts) {f : Go
   is-culprit : f ≡ goalAs (culprit (productOf m) n)
   is-culprit = taken ∙ ap goalAs (culprit-held (productOf m) (m .finals) (m .states) refl (λ _. refl) hs ts (start-state-in m (R .valid-model)) (start-symbol-in m (R .valid-model)) n (R .small) (R .table))
 
-  wrote : Wrote room 0 (each (violationSteps m n) stored) at room′
+  wrote : Put room room′ 0 at (each (violationSteps m n) stored)
   wrote =
-      subst (λ (ss : List Step). Wrote room 0 (each ss stored) at room′) (ap (stepsFor (trace (productOf m) n)) is-culprit ∙ goal-trace (productOf m) n (culprit (productOf m) n))
+      subst (λ (ss : List Step). Put room room′ 0 at (each ss stored)) (ap (stepsFor (trace (productOf m) n)) is-culprit ∙ goal-trace (productOf m) n (culprit (productOf m) n))
       (u .steps (productOf m) n (explains-ranked m (R .valid-model) n (R .small) hs ts (R .table)) (subst⁻¹ (HeldFor (productOf m) n) is-culprit (goal-held (productOf m) n (culprit (productOf m) n) refl)))
 
   pub written-cut : {k : ℕ} → k ≡ length room → k < at → Written m n room (Cut n k) room′

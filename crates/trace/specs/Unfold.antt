@@ -12,15 +12,10 @@ use Rattle.product.specs.Facts.{Fact, head, triple, Way}
 use Rattle.product.specs.Rounds.{held}
 use Rattle.product.specs.Table.{Table, ranks}
 use Rattle.product.specs.Trace.{explanation, trace}
+use Rattle.text.specs.Put.{Put}
 use Rattle.culprit.specs.declared.Goal.{Goal}
 use Rattle.culprit.specs.declared.Goal.the-variants.{Head, Triple, Nothing}
 use Rattle.culprit.specs.Culprit.{goalOf}
-
--- The numbers were written from the place on, and the place after them is given back; past the room nothing is written, and the place one after its
--- end says that something was cut.
-pub record Wrote (room : List ℕ) (at : ℕ) (numbers : List ℕ) (r : ℕ) (room′ : List ℕ) : Type 0 where
-  pub place : r ≡ min (at + length numbers) (length room + 1)
-  pub cells : room′ ≡ sets room at numbers
 
 -- the numbers of rules and moves can be stored, and the place is one of the room
 pub record Storable (rules moves at room : ℕ) : Type 0 where
@@ -47,4 +42,4 @@ stepsFor t (Triple q g e) = t (triple q g e)
 -- whatever product is explained, the trace of the fact was written
 pub record Unfolded (t : Table) (why : ℕ → Goal → Option Way) (f : Goal) (room : List ℕ) (at r : ℕ) (room′ : List ℕ) : Type 0 where
   pub within : r ≤ length room + 1
-  pub steps : (p : Product) (n : ℕ) → Explains p n t why → HeldFor p n f → Wrote room at (each (stepsFor (trace p n) f) stored) r room′
+  pub steps : (p : Product) (n : ℕ) → Explains p n t why → HeldFor p n f → Put room room′ at r (each (stepsFor (trace p n) f) stored)

@@ -2,9 +2,10 @@
 ghost use mathlib.Core.List.{[], _∷_};
 ghost use Prim.Native.Nat.{_+_, _*_, _<_};
 ghost use lib.ListN.{length};
+ghost use Rattle.text.specs.Put.{Put};
 ghost use Rattle.table.specs.Cells.{view};
 ghost use Rattle.explain.specs.Search.{whyIn};
-ghost use Rattle.trace.specs.Unfold.{Wrote, Storable, Unfolded};
+ghost use Rattle.trace.specs.Unfold.{Storable, Unfolded};
 ghost use Rattle.trace.specs.Written.{Ranked, Written};
 ghost use Rattle.trace.specs.Outcome.{Outcome};
 use culprit::Goal;
@@ -27,7 +28,7 @@ pub enum Traced {
 // Writes a step, if there is room, and gives the next place: one past the end of the room where it was cut.
 fn put(room: &mut [u16], at: usize, rule: usize, by: usize) -> usize
     requires { ⌜ (rule < 256) × (by < 128) ⌝ }
-    ensures { λ r. ⌜ Wrote (now (room .entry)) at ((rule * 128 + by) ∷ []) r (now (room .exit)) ⌝ }
+    ensures { λ r. ⌜ Put (now (room .entry)) (now (room .exit)) at r ((rule * 128 + by) ∷ []) ⌝ }
 {
     if room.len() <= at {
         return room.len() + 1;

@@ -14,8 +14,9 @@ use Rattle.model.specs.declared.Rule.{Rule}
 use Rattle.model.specs.Answers.{ruleAs, meant}
 use Rattle.model.proofs.Answers.{meant-as}
 use Rattle.print.specs.Bytes.{lineBytes, namedBytes}
-use Rattle.print.specs.Put.{Put}
-use Rattle.print.proofs.Puts.{as-put, then-put, over-same}
+use Rattle.text.specs.Put.{Put}
+use Rattle.text.proofs.Puts.{as-put, then-put}
+use Rattle.product.proofs.Lists.{over-alike}
 use Rattle.model.specs.Model.{ruleAt, moveAt}
 use Rattle.violation.specs.Words.{violationWord, stepWord, cutWord}
 use Rattle.violation.specs.Bytes.{room, shown, kindOf, stepLine, stepLines, firstLine, violationBytes}
@@ -49,7 +50,7 @@ getD-sets [] s i h k = absurd (omega arith)
 pub lines-same : (rulerows moverows l s : List ℕ) (n : ℕ) → n ≤ length l → n ≤ length s → stepLines rulerows moverows (sets l 0 s) n ≡ stepLines rulerows moverows s n
 unfolding stepLines
 lines-same rulerows moverows l s n h k =
-    over-same n (λ i. stepLine rulerows moverows (i + 1) (getD (sets l 0 s) i 0)) (λ i. stepLine rulerows moverows (i + 1) (getD s i 0))
+    over-alike n (λ i. stepLine rulerows moverows (i + 1) (getD (sets l 0 s) i 0)) (λ i. stepLine rulerows moverows (i + 1) (getD s i 0))
     (λ i z. ap (stepLine rulerows moverows (i + 1)) (getD-sets l s i (omega arith) (omega arith)))
 
 -- the line of a step, by the state and the rule that were read

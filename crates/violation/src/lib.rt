@@ -4,7 +4,7 @@ ghost use Prim.Native.Nat.{ℕ, min};
 ghost use lib.ListN.{length};
 ghost use Rattle.model.specs.Answers.{meant};
 ghost use Rattle.print.specs.Bytes.{namedBytes};
-ghost use Rattle.print.specs.Put.{Put};
+ghost use Rattle.text.specs.Put.{Put};
 ghost use Rattle.violation.specs.Words.{stepWord};
 ghost use Rattle.violation.specs.Bytes.{shown, kindOf, stepLine, stepLines, firstLine, violationBytes};
 ghost use Rattle.violation.specs.Steps.{Steps};

@@ -1,5 +1,5 @@
 -- `print::put` meets its contract. Assumes nothing.
-use Rattle.print.proofs.Puts.{byte-put, byte-past}
+use Rattle.text.proofs.Puts.{one-put, one-past}
 use native.Mathlib.Omega.{arith}
 use borrow.Author.Needs.{needs}
 use Rattle.print.proofs.put.Statement.{statement}
@@ -9,7 +9,7 @@ add-result : tie.Need-add-result
 add-result c = search needs
 
 returns : tie.Need-returns
-returns c = byte-past _ _ _ (c .if1 .taken)
+returns c = one-past _ _ _ (c .if1 .taken)
 
 slice-write-out : tie.Need-slice-write-out
 slice-write-out c = search needs
@@ -21,7 +21,7 @@ same-length : tie.Need-same-length
 same-length c = search needs
 
 returns-2 : tie.Need-returns-2
-returns-2 c = byte-put _ _ _ (omega arith)
+returns-2 c = one-put _ _ _ (omega arith)
 
 pub put-spec : {M : Type 1} → statement M
 put-spec =

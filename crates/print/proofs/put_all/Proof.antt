@@ -2,8 +2,9 @@
 use Prim.Native.Nat.{_-_, _≤_}
 use lib.ListN.{length, take}
 use lib.Seq.{take-all}
-use Rattle.print.specs.Put.{Put}
-use Rattle.print.proofs.Puts.{none-put, then-put, as-put, take-more, put-length}
+use Rattle.text.specs.Put.{Put}
+use Rattle.text.proofs.Puts.{none-put, then-put, as-put, put-length}
+use Rattle.print.proofs.Puts.{take-more}
 use borrow.Author.Needs.{needs}
 use native.Mathlib.Omega.{arith}
 use Rattle.print.proofs.put_all.Statement.{statement}

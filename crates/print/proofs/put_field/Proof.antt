@@ -1,7 +1,8 @@
 -- `print::put_field` meets its contract. Assumes nothing.
 use lib.Seq.{length-take-le}
 use mathlib.Core.Path.{sym, _∙_}
-use Rattle.print.proofs.Puts.{then-put, as-put, put-length, digits-part-of, digits-within}
+use Rattle.text.proofs.Puts.{then-put, as-put, put-length}
+use Rattle.print.proofs.Puts.{digits-part-of, digits-within}
 use borrow.Author.Needs.{needs}
 use Rattle.print.proofs.put_field.Statement.{statement}
 use Rattle.print.proofs.put_field.Tie as tie

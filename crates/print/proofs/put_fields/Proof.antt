@@ -5,8 +5,9 @@ use lib.ListN.{length, take}
 use lib.Seq.{take-all}
 use Rattle.product.specs.Lists.{over}
 use Rattle.print.specs.Bytes.{fieldBytes}
-use Rattle.print.specs.Put.{Put}
-use Rattle.print.proofs.Puts.{none-put, then-put, as-put, fields-more, put-length}
+use Rattle.text.specs.Put.{Put}
+use Rattle.text.proofs.Puts.{none-put, then-put, as-put, put-length}
+use Rattle.print.proofs.Puts.{fields-more}
 use borrow.Author.Needs.{needs}
 use native.Mathlib.Omega.{arith}
 use Rattle.print.proofs.put_fields.Statement.{statement}

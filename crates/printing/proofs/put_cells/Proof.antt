@@ -1,8 +1,8 @@
 -- `printing::put_cells` meets its contract. Assumes nothing.
 use mathlib.Core.Path.{_≡_}
 use Prim.Native.Nat.{_-_, _≤_}
-use Rattle.print.specs.Put.{Put}
-use Rattle.print.proofs.Puts.{none-put, as-put, put-length}
+use Rattle.text.specs.Put.{Put}
+use Rattle.text.proofs.Puts.{none-put, as-put, put-length}
 use Rattle.printing.specs.Listing.{cellsBytes}
 use Rattle.printing.proofs.Bytes.{cells-none, cells-put}
 use borrow.Author.Needs.{needs}

@@ -1,5 +1,5 @@
 -- `printing::put_header` meets its contract. Assumes nothing.
-use Rattle.print.proofs.Puts.{put-length}
+use Rattle.text.proofs.Puts.{put-length}
 use Rattle.printing.proofs.Whole.{header-put}
 use borrow.Author.Needs.{needs}
 use Rattle.printing.proofs.put_header.Statement.{statement}

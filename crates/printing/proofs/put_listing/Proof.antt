@@ -1,6 +1,6 @@
 -- `printing::put_listing` meets its contract. Assumes nothing.
 use mathlib.Core.Path.{_∙_}
-use Rattle.print.proofs.Puts.{put-length}
+use Rattle.text.proofs.Puts.{put-length}
 use Rattle.printing.proofs.Whole.{heads-rows, triples-rows, listing-put}
 use Rattle.printing.proofs.put_listing.Statement.{statement}
 use Rattle.printing.proofs.put_listing.Tie as tie

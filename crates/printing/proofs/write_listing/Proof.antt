@@ -1,5 +1,5 @@
 -- `printing::write_listing` meets its contract. Assumes nothing.
-use Rattle.print.proofs.Puts.{put-length}
+use Rattle.text.proofs.Puts.{put-length}
 use Rattle.printing.proofs.Whole.{invalid-writes, short-writes, whole, all-writes, cut-writes}
 use borrow.Author.Needs.{needs}
 use Rattle.printing.proofs.write_listing.Statement.{statement}

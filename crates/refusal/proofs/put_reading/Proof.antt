@@ -1,5 +1,5 @@
 -- `refusal::put_reading` meets its contract. Assumes nothing.
-use Rattle.print.proofs.Puts.{put-length}
+use Rattle.text.proofs.Puts.{put-length}
 use Rattle.refusal.proofs.Reading.{case-put, case-line, nothing-put}
 use native.Mathlib.Omega.{arith}
 use borrow.Author.Needs.{needs}

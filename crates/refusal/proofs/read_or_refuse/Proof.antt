@@ -1,5 +1,5 @@
 -- `refusal::read_or_refuse` meets its contract. Assumes nothing.
-use Rattle.print.proofs.Puts.{put-length}
+use Rattle.text.proofs.Puts.{put-length}
 use Rattle.refusal.proofs.Reading.{line-fits, seeing}
 use borrow.Author.Needs.{needs}
 use Rattle.refusal.proofs.read_or_refuse.Statement.{statement}

@@ -1,6 +1,6 @@
 -- `report::check_text` meets its contract. Assumes nothing.
 use mathlib.Core.Path.{_∙_}
-use Rattle.print.proofs.Puts.{put-length}
+use Rattle.text.proofs.Puts.{put-length}
 use Rattle.refusal.proofs.Reading.{model-valid, accepted-put, refused-put}
 use Rattle.report.specs.Output.{modelOutput}
 use borrow.Author.Needs.{needs}

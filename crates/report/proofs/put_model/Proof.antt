@@ -1,6 +1,6 @@
 -- `report::put_model` meets its contract. Assumes nothing.
 use mathlib.Core.Path.{refl}
-use Rattle.print.proofs.Puts.{put-length}
+use Rattle.text.proofs.Puts.{put-length}
 use Rattle.report.proofs.Answer.{told}
 use borrow.Author.Needs.{needs}
 use Rattle.report.proofs.put_model.Statement.{statement}

@@ -1,6 +1,6 @@
 -- `report::put_told` meets its contract. Assumes nothing.
 use mathlib.Core.Path.{ap}
-use Rattle.print.proofs.Puts.{put-length}
+use Rattle.text.proofs.Puts.{put-length}
 use Rattle.trace.specs.Outcome.{meaning}
 use Rattle.report.proofs.Answer.{never, found-put, cut-put, safe-put, fits-after}
 use native.Mathlib.Omega.{arith}

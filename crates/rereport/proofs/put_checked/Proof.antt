@@ -1,6 +1,6 @@
 -- `rereport::put_checked` meets its contract. Assumes nothing.
 use mathlib.Core.Path.{refl}
-use Rattle.print.proofs.Puts.{put-length}
+use Rattle.text.proofs.Puts.{put-length}
 use Rattle.rereport.proofs.Cases.{checked-put, rule-fits, move-fits, never-invalid, never-short}
 use native.Mathlib.Omega.{arith}
 use borrow.Author.Needs.{needs}

@@ -1,5 +1,5 @@
 -- `rereport::put_heard` meets its contract. Assumes nothing.
-use Rattle.print.proofs.Puts.{put-length}
+use Rattle.text.proofs.Puts.{put-length}
 use Rattle.rereport.proofs.Cases.{case-put, case-line}
 use native.Mathlib.Omega.{arith}
 use borrow.Author.Needs.{needs}

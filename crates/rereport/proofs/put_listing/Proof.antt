@@ -1,6 +1,6 @@
 -- `rereport::put_listing` meets its contract. Assumes nothing.
 use mathlib.Core.Path.{refl}
-use Rattle.print.proofs.Puts.{put-length}
+use Rattle.text.proofs.Puts.{put-length}
 use Rattle.fitting.proofs.Tested.{ample}
 use Rattle.rereport.proofs.Cases.{heard, heard-put}
 use borrow.Author.Needs.{needs}

@@ -1,6 +1,6 @@
 -- `rereport::recheck_text` meets its contract. Assumes nothing.
 use mathlib.Core.Path.{_∙_}
-use Rattle.print.proofs.Puts.{put-length}
+use Rattle.text.proofs.Puts.{put-length}
 use Rattle.refusal.proofs.Reading.{model-valid}
 use Rattle.rereport.proofs.Cases.{seen-put, unseen-put}
 use borrow.Author.Needs.{needs}

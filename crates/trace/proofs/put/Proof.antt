@@ -1,7 +1,7 @@
 -- `trace::put` meets its contract. Assumes nothing.
 use borrow.Author.Needs.{needs}
 use native.Mathlib.Omega.{arith}
-use Rattle.trace.proofs.Wrote.{wrote-full, wrote-one}
+use Rattle.text.proofs.Puts.{one-past, one-put}
 use Rattle.trace.proofs.put.Statement.{statement}
 use Rattle.trace.proofs.put.Tie as tie
 
@@ -9,7 +9,7 @@ add-result : tie.Need-add-result
 add-result c = search needs
 
 returns : tie.Need-returns
-returns c = wrote-full _ _ _ (c .if1 .taken)
+returns c = one-past _ _ _ (c .if1 .taken)
 
 mul-room : tie.Need-mul-room
 mul-room c = search needs
@@ -33,7 +33,7 @@ same-length : tie.Need-same-length
 same-length c = search needs
 
 returns-2 : tie.Need-returns-2
-returns-2 c = wrote-one _ _ _ (omega arith)
+returns-2 c = one-put _ _ _ (omega arith)
 
 pub put-spec : {M : Type 1} → statement M
 put-spec =

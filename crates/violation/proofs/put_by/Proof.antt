@@ -1,5 +1,5 @@
 -- `violation::put_by` meets its contract. Assumes nothing.
-use Rattle.print.proofs.Puts.{put-length}
+use Rattle.text.proofs.Puts.{put-length}
 use Rattle.violation.proofs.Lines.{by-put}
 use borrow.Author.Needs.{needs}
 use Rattle.violation.proofs.put_by.Statement.{statement}

@@ -1,5 +1,5 @@
 -- `violation::put_step` meets its contract. Assumes nothing.
-use Rattle.print.proofs.Puts.{put-length}
+use Rattle.text.proofs.Puts.{put-length}
 use Rattle.violation.proofs.Lines.{step-put}
 use borrow.Author.Needs.{needs}
 use Rattle.violation.proofs.put_step.Statement.{statement}

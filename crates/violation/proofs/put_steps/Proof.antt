@@ -1,8 +1,8 @@
 -- `violation::put_steps` meets its contract. Assumes nothing.
 use mathlib.Core.Path.{_≡_}
 use Prim.Native.Nat.{_-_, _≤_}
-use Rattle.print.specs.Put.{Put}
-use Rattle.print.proofs.Puts.{none-put, as-put, put-length}
+use Rattle.text.specs.Put.{Put}
+use Rattle.text.proofs.Puts.{none-put, as-put, put-length}
 use Rattle.violation.specs.Bytes.{stepLines}
 use Rattle.violation.proofs.Lines.{lines-none, more-put}
 use borrow.Author.Needs.{needs}

@@ -1,5 +1,5 @@
 -- `violation::put_violation` meets its contract. Assumes nothing.
-use Rattle.print.proofs.Puts.{put-length}
+use Rattle.text.proofs.Puts.{put-length}
 use mathlib.Core.Path.{_∙_}
 use Rattle.violation.proofs.Lines.{shown-steps, violation-put}
 use borrow.Author.Needs.{needs}
