@@ -1,4 +1,5 @@
 -- `printing::put_head` meets its contract. Assumes nothing.
+use mathlib.Core.Path.{refl}
 use Rattle.text.proofs.Puts.{put-length}
 use native.Mathlib.Nat.{div-le-self, mod-le}
 use native.Mathlib.Omega.{arith}
@@ -21,15 +22,6 @@ rem-t11 c = search needs
 cast-t12 : tie.Need-cast-t12
 cast-t12 c = omega (arith, mod-le (c .before .before .args .i) (c .before .before .args .size .symbols))
 
-slice-aggregate-put-line : tie.Need-slice-aggregate-put-line
-slice-aggregate-put-line c = search needs
-
-slice-aggregate-put-line-2 : tie.Need-slice-aggregate-put-line-2
-slice-aggregate-put-line-2 c = search needs
-
-put-line-requires : tie.Need-put-line-requires
-put-line-requires c κs = search needs
-
 same-length : tie.Need-same-length
 same-length c = put-length (c .before .before .put-line .ensures)
 
@@ -45,8 +37,8 @@ put-head-spec =
     cast-t10
     rem-t11
     cast-t12
-    slice-aggregate-put-line
-    slice-aggregate-put-line-2
-    put-line-requires
+    (λ c. refl)
+    (λ c. refl)
+    (λ c κs. tt)
     same-length
     returns)

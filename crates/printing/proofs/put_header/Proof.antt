@@ -1,7 +1,7 @@
 -- `printing::put_header` meets its contract. Assumes nothing.
+use mathlib.Core.Path.{refl}
 use Rattle.text.proofs.Puts.{put-length}
 use Rattle.printing.proofs.Whole.{header-put}
-use borrow.Author.Needs.{needs}
 use Rattle.printing.proofs.put_header.Statement.{statement}
 use Rattle.printing.proofs.put_header.Tie as tie
 
@@ -10,15 +10,6 @@ count-requires c κs = (c .before .before .before .pre .heads-there, c .before .
 
 count-requires-2 : tie.Need-count-requires-2
 count-requires-2 c κs = (c .before .before .before .before .pre .triples-there, c .before .before .before .before .pre .triples-few)
-
-slice-aggregate-put-line : tie.Need-slice-aggregate-put-line
-slice-aggregate-put-line c = search needs
-
-slice-aggregate-put-line-2 : tie.Need-slice-aggregate-put-line-2
-slice-aggregate-put-line-2 c = search needs
-
-put-line-requires : tie.Need-put-line-requires
-put-line-requires c κs = search needs
 
 same-length : tie.Need-same-length
 same-length c = put-length (c .before .before .put-line .ensures)
@@ -32,8 +23,8 @@ put-header-spec =
     (tie.spec
     count-requires
     count-requires-2
-    slice-aggregate-put-line
-    slice-aggregate-put-line-2
-    put-line-requires
+    (λ c. refl)
+    (λ c. refl)
+    (λ c κs. tt)
     same-length
     returns)

@@ -1,4 +1,5 @@
 -- `printing::put_triple` meets its contract. Assumes nothing.
+use mathlib.Core.Path.{refl}
 use Rattle.text.proofs.Puts.{put-length}
 use Prim.Native.Nat.{_/_}
 use native.Mathlib.Nat.{div-le-self, mod-le}
@@ -34,15 +35,6 @@ rem-t15 c = search needs
 cast-t16 : tie.Need-cast-t16
 cast-t16 c = omega (arith, mod-le (c .before .before .before .args .i) (c .before .before .before .args .size .states))
 
-slice-aggregate-put-line : tie.Need-slice-aggregate-put-line
-slice-aggregate-put-line c = search needs
-
-slice-aggregate-put-line-2 : tie.Need-slice-aggregate-put-line-2
-slice-aggregate-put-line-2 c = search needs
-
-put-line-requires : tie.Need-put-line-requires
-put-line-requires c κs = search needs
-
 same-length : tie.Need-same-length
 same-length c = put-length (c .before .before .put-line .ensures)
 
@@ -62,8 +54,8 @@ put-triple-spec =
     cast-t14
     rem-t15
     cast-t16
-    slice-aggregate-put-line
-    slice-aggregate-put-line-2
-    put-line-requires
+    (λ c. refl)
+    (λ c. refl)
+    (λ c κs. tt)
     same-length
     returns)
