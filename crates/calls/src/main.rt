@@ -6,11 +6,11 @@ ghost use Prim.Native.Nat.{_≤_};
 use decide::Decision;
 use libc::STDIN_FILENO;
 use model::Model;
+use numbers::Numbers;
 use recheck::Recheck;
 use replay::Replayed;
 use show::line;
 use table::Size;
-use text::Numbers;
 use trace::Traced;
 
 mod reading; // how a reading ends
@@ -207,7 +207,7 @@ fn next(s: &[u8]) -> usize {
     if s.len() <= e {
         return 0;
     }
-    let numbers = text::read_numbers(&s[..e]);
+    let numbers = numbers::read_numbers(&s[..e]);
     if numbers.count == 0 {
         return 0;
     }

@@ -9,8 +9,8 @@ use Rattle.product.specs.Lists.{over, upTo}
 use Rattle.product.specs.Product.{Step}
 use Rattle.product.specs.Facts.{head, consequences}
 use Rattle.text.specs.Split.{first, split, sameBytes}
-use Rattle.text.specs.Number.{numberOf, numbersOf}
-use Rattle.text.specs.Digits.{digitsOf}
+use Rattle.numbers.specs.Number.{numberOf, numbersOf}
+use Rattle.numbers.specs.Digits.{digitsOf}
 use Rattle.table.specs.declared.Size.{Size}
 use Rattle.table.specs.Cells.{headCount, tripleCount, longEnough, headIn, tripleIn, putHead, putTriple, cleared, view}
 use Rattle.culprit.specs.declared.Goal.{Goal}

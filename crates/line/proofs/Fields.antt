@@ -6,8 +6,8 @@ use lib.Dec.{eqb}
 use lib.ListN.{length, take}
 use borrow.Author.Tests.{eq-eqb, ne-eqb}
 use Rattle.text.specs.Split.{pick, first, split}
-use Rattle.text.specs.Number.{numbersOf}
-use Rattle.text.specs.declared.Numbers.{Numbers}
+use Rattle.numbers.specs.Number.{numbersOf}
+use Rattle.numbers.specs.declared.Numbers.{Numbers}
 use Rattle.text.proofs.Split.{after, first-piece, later-after, no-later}
 use Rattle.line.specs.Line.{wordOf, wants, malformed, lineOf}
 use Rattle.line.specs.declared.Word.{Word}

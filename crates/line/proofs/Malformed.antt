@@ -6,9 +6,9 @@ use Prim.Native.Nat.{ℕ}
 use lib.Dec.{eqb}
 use borrow.Author.Tests.{eqb-true}
 use Rattle.text.specs.Split.{pick}
-use Rattle.text.specs.Number.{numberOf, wrong, push, numbersFrom, numbersOf}
-use Rattle.text.specs.declared.Numbers.{Numbers}
-use Rattle.text.proofs.Fields.{push-none}
+use Rattle.numbers.specs.Number.{numberOf, wrong, push, numbersFrom, numbersOf}
+use Rattle.numbers.specs.declared.Numbers.{Numbers}
+use Rattle.numbers.proofs.Fields.{push-none}
 use Rattle.line.specs.Line.{wordOf, wants, malformed, lineOf}
 use Rattle.line.specs.declared.Word.{Word}
 use Rattle.line.specs.declared.Word.the-variants.{Malformed}

@@ -3,7 +3,7 @@ use mathlib.Core.List.{List, [], _∷_}
 use Prim.Native.Nat.{ℕ}
 use lib.Dec.{eqb}
 use Rattle.text.specs.Split.{pick, sameBytes}
-use Rattle.text.specs.Number.{wrong, numbersOf}
+use Rattle.numbers.specs.Number.{wrong, numbersOf}
 use Rattle.line.specs.declared.Word.{Word}
 use Rattle.line.specs.declared.Word.the-variants.{Size, Start, Final, Event, Exit, Direct, Call, Move, Safe, Head, Erase, Malformed}
 use Rattle.line.specs.declared.Line.{Line}

@@ -3,7 +3,7 @@ ghost use mathlib.Core.Path.{_≡_};
 ghost use Prim.Native.Nat.{ℕ};
 ghost use Rattle.text.specs.Split.{pick, split, sameBytes};
 ghost use Rattle.line.specs.Line.{wordOf, wants, malformed, lineOf};
-use text::Numbers;
+use numbers::Numbers;
 
 // The words of both texts; Malformed is any other.
 pub enum Word {
@@ -99,7 +99,7 @@ pub fn read_line(s: &[u8]) -> Line
     }
     let word = word_of(&s[..e]);
     let b = e + 1;
-    let numbers = text::read_numbers(&s[b..]);
+    let numbers = numbers::read_numbers(&s[b..]);
     let count = wanted(word);
     if numbers.count != count {
         return no_line();

@@ -6,10 +6,10 @@ use native.Mathlib.Numerals.{add-one}
 use native.Mathlib.Omega.{arith}
 use lib.ListN.{length, getD, take, replicate, length-append}
 use lib.Seq.{take-suc}
-use Rattle.text.specs.Digits.{decimal, written, digitsOf}
-use Rattle.text.specs.declared.Digits.{Digits}
+use Rattle.numbers.specs.Digits.{decimal, written, digitsOf}
+use Rattle.numbers.specs.declared.Digits.{Digits}
 use Rattle.text.specs.Put.{Put}
-use Rattle.text.proofs.Back.{digits-part}
+use Rattle.numbers.proofs.Back.{digits-part}
 use Rattle.text.proofs.Puts.{then-put}
 use Rattle.product.specs.Lists.{over}
 use Rattle.product.proofs.Lists.{over-append}

@@ -1,7 +1,7 @@
 -- The bytes of a line: fields parted by one tab, and a line feed. Assumes nothing.
 use mathlib.Core.List.{List, [], _∷_, _++_}
 use Prim.Native.Nat.{ℕ}
-use Rattle.text.specs.Digits.{decimal}
+use Rattle.numbers.specs.Digits.{decimal}
 use Rattle.product.specs.Lists.{over}
 
 -- a tab, and the number

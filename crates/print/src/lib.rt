@@ -45,7 +45,7 @@ pub fn put_field(out: &mut [u8], at: usize, n: u16) -> usize
     ensures { λ r. ⌜ Put (now (out .entry)) (now (out .exit)) at r (fieldBytes n) ⌝ }
 {
     let next = put(out, at, b'\t');
-    let d = text::write_number(n);
+    let d = numbers::write_number(n);
     let digits = d.at;
     let count = d.count;
     put_all(out, next, &digits[..count])

@@ -8,8 +8,8 @@ use lib.Dec.{eqb}
 use lib.ListN.{length, getD, length-append}
 use borrow.Author.Tests.{eq-eqb, ne-eqb}
 use Rattle.text.specs.Split.{pick}
-use Rattle.text.specs.Digits.{decimal}
-use Rattle.text.proofs.Back.{decimal-length}
+use Rattle.numbers.specs.Digits.{decimal}
+use Rattle.numbers.proofs.Back.{decimal-length}
 use Rattle.product.specs.Lists.{over}
 use Rattle.product.specs.Table.{absent}
 use Rattle.product.proofs.Lists.{over-suc}

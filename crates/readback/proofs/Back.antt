@@ -8,11 +8,11 @@ use lib.ListN.{length, replicate}
 use lib.Seq.{append-snoc}
 use borrow.Author.Tests.{eq-eqb}
 use Rattle.text.specs.Split.{pick, first, later, split, joined, without, Each}
-use Rattle.text.specs.Number.{most}
-use Rattle.text.specs.Digits.{decimal}
-use Rattle.text.specs.declared.Numbers.{Numbers}
+use Rattle.numbers.specs.Number.{most}
+use Rattle.numbers.specs.Digits.{decimal}
+use Rattle.numbers.specs.declared.Numbers.{Numbers}
 use Rattle.text.proofs.Split.{split-append, without-append}
-use Rattle.text.proofs.Back.{without-digits, numbers-back, fields-back}
+use Rattle.numbers.proofs.Back.{without-digits, numbers-back, fields-back}
 use Rattle.product.specs.Lists.{over}
 use Rattle.table.specs.declared.Size.{Size}
 use Rattle.line.specs.Line.{wordOf, wants, malformed, lineOf}

@@ -13,9 +13,9 @@ use lib.ListN.{length, getD, set, length-append, length-set, length-replicate, g
 use lib.Seq.{getD-set-same, getD-set-other}
 use borrow.Author.Tests.{eq-eqb, ne-eqb}
 use Rattle.text.specs.Split.{pick, first, later, without, sameBytes}
-use Rattle.text.specs.Digits.{decimalIn}
-use Rattle.text.proofs.Back.{below-ten}
-use Rattle.text.proofs.Decimals.{decimal-one, decimal-more}
+use Rattle.numbers.specs.Digits.{decimalIn}
+use Rattle.numbers.proofs.Back.{below-ten}
+use Rattle.numbers.proofs.Decimals.{decimal-one, decimal-more}
 use Rattle.product.specs.Lists.{over}
 use Rattle.product.specs.Table.{absent}
 use Rattle.table.specs.declared.Size.{Size}

@@ -2,9 +2,4 @@
 pub mod Lists
 pub mod Split
 pub mod Bytes
-pub mod Spelling
-pub mod Fields
-pub mod Decimals
-pub mod Back
-pub mod Cases
 pub mod Puts

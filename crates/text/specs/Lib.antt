@@ -1,5 +1,3 @@
--- What the bytes of a text mean: pieces between separators, numbers, and how numbers are written. Assumes nothing.
+-- The pieces of a text between separators, and what it is to put numbers into lent memory. Assumes nothing.
 pub mod Split
-pub mod Number
-pub mod Digits
 pub mod Put

@@ -11,14 +11,14 @@ use lib.Dec.{T, ltb, eqb}
 use lib.ListN.{length, getD, take, drop, set, replicate, length-append, List·getD-append}
 use lib.Seq.{sets, sets-eq, take-append-seam}
 use borrow.Author.Tests.{lt-ltb, le-ltb, ne-eqb, ltb-true, ltb-false}
 use Rattle.text.specs.Split.{pick, split, joined, without, Each}
-use Rattle.text.specs.Number.{spelled, numberOf, most, wrong, push, numbersFrom, numbersOf}
-use Rattle.text.specs.Digits.{decimalIn, decimal, written, digitsOf}
-use Rattle.text.specs.declared.Number.the-variants.{Is, Bad}
-use Rattle.text.specs.declared.Numbers.{Numbers}
+use Rattle.numbers.specs.Number.{spelled, numberOf, most, wrong, push, numbersFrom, numbersOf}
+use Rattle.numbers.specs.Digits.{decimalIn, decimal, written, digitsOf}
+use Rattle.numbers.specs.declared.Number.the-variants.{Is, Bad}
+use Rattle.numbers.specs.declared.Numbers.{Numbers}
 use Rattle.text.proofs.Split.{without-append, split-joined}
-use Rattle.text.proofs.Decimals.{decimal-one, decimal-more}
-use Rattle.text.proofs.Fields.{from-next}
+use Rattle.numbers.proofs.Decimals.{decimal-one, decimal-more}
+use Rattle.numbers.proofs.Fields.{from-next}
 
 -- a digit or more: the two cases of a number
 pub below-ten : (n : ℕ) → (n < 10) ⊎ (10 ≤ n)

@@ -3,11 +3,11 @@ use mathlib.Core.Path.{sym}
 use lib.ListN.{length}
 use lib.Seq.{length-take-le}
 use native.Mathlib.Omega.{arith}
 use Rattle.text.proofs.Split.{place-within, after-shorter}
-use Rattle.text.proofs.Fields.{Turn, first-turn, turn-stop, turn-next, turn-last}
+use Rattle.numbers.proofs.Fields.{Turn, first-turn, turn-stop, turn-next, turn-last}
 use borrow.Author.Needs.{needs}
-use Rattle.text.proofs.read_numbers.Statement.{statement}
-use Rattle.text.proofs.read_numbers.Tie as tie
+use Rattle.numbers.proofs.read_numbers.Statement.{statement}
+use Rattle.numbers.proofs.read_numbers.Tie as tie
 
 abbrev Inv-loop : tie.InvT-loop
 Inv-loop s n₀ fields₀ e₀ n fields e = Turn s n fields e

@@ -9,10 +9,10 @@ use mathlib.Core.List.{List, [], _∷_}
 use lib.ListN.{length, getD, drop, drop-of-length-le}
 use lib.Dec.{ltb, eqb}
 use borrow.Author.Tests.{lt-ltb, le-ltb, ltb-false}
 use Rattle.text.specs.Split.{pick}
-use Rattle.text.specs.Number.{spelled, numberOf}
-use Rattle.text.specs.declared.Number.the-variants.{Is, Bad}
+use Rattle.numbers.specs.Number.{spelled, numberOf}
+use Rattle.numbers.specs.declared.Number.the-variants.{Is, Bad}
 use Rattle.text.proofs.Lists.{next}
 
 module _ (v i : ℕ) (s : List ℕ) where
   pub spelled-next : i < length s → 48 ≤ getD s i 0 → getD s i 0 ≤ 57 → spelled v (drop i s) ≡ spelled (v * 10 + (getD s i 0 - 48)) (drop (i + 1) s)

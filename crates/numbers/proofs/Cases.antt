@@ -1,10 +1,10 @@
 -- The definitions at work on a few fields, where a slip would show. Assumes nothing.
 use mathlib.Core.Path.{_≡_, refl}
 use mathlib.Core.List.{[], _∷_, map}
 use Rattle.text.specs.Split.{first, later, split}
-use Rattle.text.specs.Number.{spelled, numberOf}
-use Rattle.text.specs.Digits.{decimalIn, decimal}
-use Rattle.text.specs.declared.Number.the-variants.{Is, Bad}
+use Rattle.numbers.specs.Number.{spelled, numberOf}
+use Rattle.numbers.specs.Digits.{decimalIn, decimal}
+use Rattle.numbers.specs.declared.Number.the-variants.{Is, Bad}
 
 -- "0" "7" "65536" "99999" "" "00" "01" "+1" "1:" "100000"
 pub number-cases :

@@ -8,8 +8,8 @@ use native.Mathlib.Omega.{arith}
 use lib.ListN.{length, getD, take, replicate}
 use lib.Seq.{append-snoc}
 use borrow.Author.Tests.{lt-ltb, le-ltb}
-use Rattle.text.specs.Digits.{decimalIn, decimal, written, front, digitsOf}
-use Rattle.text.specs.declared.Digits.{Digits}
+use Rattle.numbers.specs.Digits.{decimalIn, decimal, written, front, digitsOf}
+use Rattle.numbers.specs.declared.Digits.{Digits}
 
 module _ (k n : ℕ) where
   pub decimal-one : n < 10 → decimalIn (suc k) n ≡ (48 + n) ∷ []

@@ -3,8 +3,8 @@ use mathlib.Core.List.{List, [], _∷_, _++_}
 use Prim.Native.Nat.{ℕ, zero, suc, _+_, _-_, _/_, _%_}
 use lib.Dec.{ltb}
 use lib.ListN.{length, take, replicate}
 use Rattle.text.specs.Split.{pick}
-use Rattle.text.specs.declared.Digits.{Digits}
+use Rattle.numbers.specs.declared.Digits.{Digits}
 
 -- the digits of a number below 10 to the k, the most significant first
 unfoldable pub decimalIn : ℕ → ℕ → List ℕ

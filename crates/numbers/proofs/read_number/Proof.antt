@@ -1,9 +1,9 @@
 -- `read_number` meets its contract: each answer is a case of `numberOf`. Assumes nothing.
-use Rattle.text.specs.Number.{numberOf}
+use Rattle.numbers.specs.Number.{numberOf}
 use Rattle.text.proofs.Lists.{tests}
 use borrow.Author.Needs.{needs}
-use Rattle.text.proofs.read_number.Statement.{statement}
-use Rattle.text.proofs.read_number.Tie as tie
+use Rattle.numbers.proofs.read_number.Statement.{statement}
+use Rattle.numbers.proofs.read_number.Tie as tie
 
 returns : tie.Need-returns
 unfolding numberOf

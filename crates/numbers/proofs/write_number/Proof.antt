@@ -1,10 +1,10 @@
 -- `write_number` meets its contract, by the invariant `Turn`; what is left of the number falls. Assumes nothing.
 use mathlib.Core.Path.{refl}
-use Rattle.text.specs.Digits.{written}
-use Rattle.text.proofs.Decimals.{Turn, first-turn, open-place, turn-next, turn-last}
+use Rattle.numbers.specs.Digits.{written}
+use Rattle.numbers.proofs.Decimals.{Turn, first-turn, open-place, turn-next, turn-last}
 use native.Mathlib.Omega.{arith}
-use Rattle.text.proofs.write_number.Statement.{statement}
-use Rattle.text.proofs.write_number.Tie as tie
+use Rattle.numbers.proofs.write_number.Statement.{statement}
+use Rattle.numbers.proofs.write_number.Tie as tie
 
 abbrev Inv-loop : tie.InvT-loop
 Inv-loop n d₀ left₀ d left = Turn n d left

@@ -7,12 +7,12 @@ use native.Mathlib.Omega.{arith}
 use lib.Dec.{ltb, eqb}
 use lib.ListN.{length, take, set}
 use borrow.Author.Tests.{eq-eqb, ne-eqb, eqb-true}
 use Rattle.text.specs.Split.{pick, first, later, split}
-use Rattle.text.specs.Number.{numberOf, most, wrong, push, numbersFrom, numbersOf}
-use Rattle.text.specs.declared.Number.{Number}
-use Rattle.text.specs.declared.Number.the-variants.{Is, Bad}
-use Rattle.text.specs.declared.Numbers.{Numbers}
+use Rattle.numbers.specs.Number.{numberOf, most, wrong, push, numbersFrom, numbersOf}
+use Rattle.numbers.specs.declared.Number.{Number}
+use Rattle.numbers.specs.declared.Number.the-variants.{Is, Bad}
+use Rattle.numbers.specs.declared.Numbers.{Numbers}
 use Rattle.text.proofs.Split.{after, after-shorter, first-piece, later-after, no-later, whole-piece}
 
 -- a count of 0 is nothing but wrong
 pub push-none : (n : Numbers) (v : Number) → push n v .count ≡ 0 → push n v ≡ wrong

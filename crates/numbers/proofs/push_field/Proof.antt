@@ -2,8 +2,8 @@
 use borrow.Author.Tests.{lt-ltb, le-ltb}
 use borrow.Author.Needs.{needs}
 use native.Mathlib.Omega.{arith}
-use Rattle.text.proofs.push_field.Statement.{statement}
-use Rattle.text.proofs.push_field.Tie as tie
+use Rattle.numbers.proofs.push_field.Statement.{statement}
+use Rattle.numbers.proofs.push_field.Tie as tie
 
 read-number-requires : tie.Need-read-number-requires
 read-number-requires c κs = tt

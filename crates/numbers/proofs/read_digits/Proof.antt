@@ -3,12 +3,12 @@
 use Prim.Native.Nat.{_≤_, _<_, _-_, _^_}
 use mathlib.Core.Path.{_≡_, sym, _∙_}
 use lib.ListN.{length, drop}
-use Rattle.text.specs.Number.{spelled}
+use Rattle.numbers.specs.Number.{spelled}
 use native.Mathlib.Omega.{arith}
-use Rattle.text.proofs.Spelling.{spelled-low, spelled-high, spelled-next, spelled-end, grows, small}
+use Rattle.numbers.proofs.Spelling.{spelled-low, spelled-high, spelled-next, spelled-end, grows, small}
 use borrow.Author.Needs.{needs}
-use Rattle.text.proofs.read_digits.Statement.{statement}
-use Rattle.text.proofs.read_digits.Tie as tie
+use Rattle.numbers.proofs.read_digits.Statement.{statement}
+use Rattle.numbers.proofs.read_digits.Tie as tie
 
 abbrev Inv-loop : tie.InvT-loop
 Inv-loop s v₀ i₀ v i = (i ≤ length s) × (v < 10 ^ i) × (spelled v (drop i s) ≡ spelled 0 s)

@@ -2,10 +2,10 @@
 use mathlib.Core.Path.{ap}
 use mathlib.Core.List.{_∷_}
 use Prim.Native.Nat.{_+_}
-use Rattle.text.proofs.Decimals.{four}
+use Rattle.numbers.proofs.Decimals.{four}
 use borrow.Author.Needs.{needs}
-use Rattle.text.proofs.put_first.Statement.{statement}
-use Rattle.text.proofs.put_first.Tie as tie
+use Rattle.numbers.proofs.put_first.Statement.{statement}
+use Rattle.numbers.proofs.put_first.Tie as tie
 
 add-t4 : tie.Need-add-t4
 add-t4 c = search needs

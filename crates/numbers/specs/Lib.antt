@@ -1,0 +1,3 @@
+-- What numbers the bytes of a text are, and how numbers are written. Assumes nothing.
+pub mod Number
+pub mod Digits
