@@ -13,7 +13,7 @@ use Rattle.rows.specs.declared.Ended.{Ended}
 use Rattle.listing.specs.declared.ListingRead.{ListingRead}
 use Rattle.listing.specs.declared.ListingRead.the-variants.{Accepted, Invalid, Short, TooLong, Malformed, Misplaced, OutOfRange}
 
--- document 01's number of each refusal, and 0 where the listing is accepted; with it the line, or the rounds that were read
+-- the document's number of each refusal, and 0 where the listing is accepted; with it the line, or the rounds that were read
 abbrev pub number : ListingRead → ℕ
 number (Accepted rounds) = 0
 number Invalid = 6

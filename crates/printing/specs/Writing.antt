@@ -13,7 +13,7 @@ use Rattle.printing.specs.declared.Written.{Written}
 use Rattle.printing.specs.declared.Written.the-variants.{Invalid, Short, Bytes, Cut}
 use Rattle.printing.specs.Listing.{listingBytes}
 
--- document 01's number of each refusal, and 0 where the listing is written, or as much of it as has room; the value is how many bytes it has
+-- the document's number of each refusal, and 0 where the listing is written, or as much of it as has room; the value is how many bytes it has
 abbrev pub number : Written → ℕ
 number Invalid = 6
 number Short = 7

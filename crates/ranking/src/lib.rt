@@ -45,7 +45,7 @@ fn triple_inside(size: Size, q: u32, g: u32, e: u32) -> bool
     e < size.states as u32
 }
 
-// Gives a head its rank; the answer is 01's number of the refusal, or 0.
+// Gives a head its rank; the answer is the document's number of the refusal, or 0.
 pub fn rank_head(cells: &mut [u16], size: Size, begun: u8, q: u32, g: u32, rank: u32) -> u8
     ensures { λ r. ⌜ Ranked (now (cells .entry)) (now (cells .exit)) (headFault size begun (now (cells .entry)) q g rank) (putHead (size .symbols) (size .states) (now (cells .entry)) q g rank) r ⌝ }
 {

@@ -113,7 +113,7 @@ moveIn Short = 0
 moveIn NoStart = 0
 moveIn Violating = 0
 
--- 01's number of an answer
+-- the document's number of an answer
 abbrev pub numberIn : Recheck → ℕ
 numberIn (Open r v) = 11
 numberIn Accepted = 0

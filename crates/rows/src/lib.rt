@@ -25,7 +25,7 @@ pub struct State {
     pub triplecells: [u16; 2048],
 }
 
-// What a line does: 01's number of its refusal, or 0, and the state after it.
+// What a line does: the document's number of its refusal, or 0, and the state after it.
 pub struct Step {
     pub refusal: u8,
     pub state: State,
