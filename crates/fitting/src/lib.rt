@@ -3,7 +3,7 @@ ghost use mathlib.Core.Path.{_≡_};
 ghost use Rattle.fitting.specs.Fits.{fitOf};
 use model::Model;
 
-// the document's number of the refusal, or 0, and then how many cells each array has of the table.
+// The document's number of the refusal, or 0, and then how many cells each array has of the table.
 pub struct Fit {
     pub refusal: u8,
     pub heads: usize,
