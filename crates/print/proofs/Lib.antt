@@ -1,2 +1,2 @@
--- Laws of what is put.
+-- Laws of the bytes of a line.
 pub mod Puts
