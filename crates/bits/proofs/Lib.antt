@@ -1,0 +1,6 @@
+pub mod Bit
+pub mod Set
+pub mod Lowest
+pub mod Some
+pub mod Matrix
+pub mod Image
