@@ -1,2 +1,3 @@
 pub mod Decided
-pub mod Look
+pub mod Sets
+pub mod Stamp

@@ -1,0 +1,99 @@
+// Sets of numbers below 256, of rules or of classes, in four words; and such sets for each symbol.
+ghost use mathlib.Core.Path.{_≡_};
+ghost use Prim.Native.Nat.{ℕ, _<_, _+_, _≤_, _*_, _^_};
+ghost use lib.ListN.{length, getD};
+ghost use Rattle.decide.specs.Sets.{With, FirstWord, Picked, Joined, Put};
+
+// A member of a set, or 256 where it has none, and the set without it.
+pub struct Choice {
+    pub member: usize,
+    pub rest: [u64; 4],
+}
+
+// The set with c.
+pub fn with(set: [u64; 4], c: usize) -> [u64; 4]
+    requires { ⌜ length set ≡ 4 ⌝ }
+    requires { ⌜ c < 256 ⌝ }
+    ensures { λ r. ⌜ With set c r ⌝ }
+{
+    let mut w = set;
+    let k = c / 64;
+    w[k] = w[k] | (1u64 << ((c % 64) as u64));
+    w
+}
+
+// The first word that is not empty, or 4.
+fn first_word(set: [u64; 4]) -> usize
+    requires { ⌜ length set ≡ 4 ⌝ }
+    ensures { λ k. ⌜ FirstWord set k ⌝ }
+{
+    if set[0] != 0 {
+        return 0;
+    }
+    if set[1] != 0 {
+        return 1;
+    }
+    if set[2] != 0 {
+        return 2;
+    }
+    if set[3] != 0 {
+        return 3;
+    }
+    4
+}
+
+// The lowest member of word k, which is d.
+fn pick_in(set: [u64; 4], k: usize, d: u64) -> Choice
+    requires { ⌜ length set ≡ 4 ⌝ }
+    requires { ⌜ (k < 4) × (0 < d) × (getD set k 0 ≡ d) ⌝ }
+    ensures { λ p. ⌜ Picked set (p .member) (p .rest) ⌝ }
+{
+    let mut rest = set;
+    rest[k] = d & (d - 1);
+    let j = u64::trailing_zeros(d) as usize;
+    Choice {
+        member: k * 64 + j,
+        rest,
+    }
+}
+
+// The lowest member.
+pub fn pick(set: [u64; 4]) -> Choice
+    requires { ⌜ length set ≡ 4 ⌝ }
+    ensures { λ p. ⌜ Picked set (p .member) (p .rest) ⌝ }
+{
+    let k = first_word(set);
+    if k == 4 {
+        return Choice {
+            member: 256,
+            rest: set,
+        };
+    }
+    pick_in(set, k, set[k])
+}
+
+// The set with the members of set number s.
+fn join(set: [u64; 4], sets: &[u64; 384], s: usize) -> [u64; 4]
+    requires { ⌜ length set ≡ 4 ⌝ }
+    requires { ⌜ s < 96 ⌝ }
+    ensures { λ r. ⌜ Joined set (now (sets .entry)) s r ⌝ }
+{
+    let at = s * 4;
+    [
+        set[0] | sets[at],
+        set[1] | sets[at + 1],
+        set[2] | sets[at + 2],
+        set[3] | sets[at + 3],
+    ]
+}
+
+// Puts r into set number s.
+pub fn put(sets: &mut [u64; 384], s: usize, r: usize)
+    requires { ⌜ s < 96 ⌝ }
+    requires { ⌜ r < 256 ⌝ }
+    requires { ⌜ length (now sets) ≡ 384 ⌝ }
+    ensures { λ _. ⌜ Put (now (sets .entry)) s r (now (sets .exit)) ⌝ }
+{
+    let at = s * 4 + r / 64;
+    sets[at] = sets[at] | (1u64 << ((r % 64) as u64));
+}
