@@ -127,3 +127,17 @@ summed-is a b = bit-ext 64 (summed a b 8) (multiplied a b) (summed-lt a b 8) (pr
         subst (λ n. bit (summed a b 8) n ≡ bit (multiplied a b) n) (div-add-mod' i 8)
         (let q : i / 8 < 8 = div-lt-iff-lt-mul {k = 8} {y = 8} (lit< tt) .1 h in let x : i % 8 < 8 = mod-lt i {m = 8} (lit< tt) in
         summed-at a b 8 (i / 8) (i % 8) q x ∙ sym (multiplied-at a b (i / 8) (i % 8) q x))
+
+-- nothing, and then anything
+pub multiplied-none : (b : ℕ) → multiplied 0 b ≡ 0
+multiplied-none b = bit-ext 64 (multiplied 0 b) 0 (product-lt 0 b) (lit< tt) same
+  where
+    none : (n q x : ℕ) → some n (λ p. entry 0 q p && entry b p x) ≡ false
+    none zero q x = refl
+    none (suc n) q x = rw (none n q x, bit-zero (q * 8 + n))
+
+    same : (i : ℕ) → i < 64 → bit (multiplied 0 b) i ≡ bit 0 i
+    same i h =
+        subst (λ n. bit (multiplied 0 b) n ≡ bit 0 n) (div-add-mod' i 8)
+        (let q : i / 8 < 8 = div-lt-iff-lt-mul {k = 8} {y = 8} (lit< tt) .1 h in let x : i % 8 < 8 = mod-lt i {m = 8} (lit< tt) in
+        multiplied-at 0 b (i / 8) (i % 8) q x ∙ none 8 (i / 8) (i % 8) ∙ sym (bit-zero (i / 8 * 8 + i % 8)))

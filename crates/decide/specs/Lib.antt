@@ -1,3 +1,5 @@
 pub mod Decided
 pub mod Sets
 pub mod Stamp
+pub mod Gather
+pub mod Take
