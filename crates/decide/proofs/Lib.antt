@@ -6,3 +6,5 @@ pub mod Stamped
 pub mod Gathered
 pub mod Taking
 pub mod Settling
+pub mod Below
+pub mod Showing

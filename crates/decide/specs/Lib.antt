@@ -3,3 +3,4 @@ pub mod Sets
 pub mod Stamp
 pub mod Gather
 pub mod Take
+pub mod Show

@@ -12,3 +12,4 @@ pub enum Decision {
 mod sets; // sets of rules and of classes
 mod stamps; // the ranks of new facts
 mod triples; // a round of the triples
+mod heads; // a round of the heads
