@@ -8,3 +8,6 @@ pub mod Taking
 pub mod Settling
 pub mod Below
 pub mod Showing
+pub mod RoundTriples
+pub mod RoundHeads
+pub mod Done

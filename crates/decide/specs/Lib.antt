@@ -4,3 +4,5 @@ pub mod Stamp
 pub mod Gather
 pub mod Take
 pub mod Show
+pub mod Frame
+pub mod Standing

@@ -13,3 +13,4 @@ mod sets; // sets of rules and of classes
 mod stamps; // the ranks of new facts
 mod triples; // a round of the triples
 mod heads; // a round of the heads
+mod rounds; // the rounds
