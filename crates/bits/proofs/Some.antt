@@ -1,17 +1,19 @@
 -- The loop over the set bits of a word: some set bit passes, by the lowest and the others. Assumes nothing.
 use mathlib.Core.Bool.{Bool, true, false, not, _&&_, _||_}
 use mathlib.Core.Logic.{_⊎_, inl, inr}
-use mathlib.Core.Path.{_≡_, refl, subst, subst⁻¹}
+use mathlib.Core.Path.{_≡_, refl, sym, _∙_, subst, subst⁻¹}
 use Prim.Native.Nat.{ℕ, zero, suc, _-_, _^_, _<_, _≤_}
+use native.Mathlib.Nat.{zero-lt-suc, pow-suc}
 use native.Mathlib.Omega.{arith}
 use native.Mathlib.Decide.{ℕ-discrete, decLt}
 use lib.Dec.{T, eqb}
 use borrow.Author.Tests.{ne-eqb}
 use lib.Bits.{bitAnd}
+use lib.Pow.{pow-pos}
 use Rattle.product.proofs.Lists.{and-left, and-right, both, or-left, or-right, or-cases, same-truth}
 use Rattle.bits.specs.Bit.{bit}
 use Rattle.bits.specs.Matrix.{some}
-use Rattle.bits.proofs.Bit.{bit-zero, bit-past}
+use Rattle.bits.proofs.Bit.{bit-zero, bit-past, bit-ext}
 use Rattle.bits.proofs.Lowest.{lowest, lowest-set, cleared}
 
 -- some number below n
@@ -81,3 +83,19 @@ low8 d p h = go (decLt (lowest d) 8)
     go : Dec (lowest d < 8) → lowest d < 8
     go (yes l) = l
     go (no l) = absurd (subst T (bit-past d 8 (lowest d) h (omega arith)) (lowest-set 64 d p (omega arith)))
+
+-- a number that is not 0 has a bit
+pub below-pow : (n : ℕ) → n < 2 ^ n
+below-pow zero = zero-lt-suc 0
+below-pow (suc n) = omega (arith, below-pow n, pow-suc 2 n)
+
+pub has-bit : (d : ℕ) → (d ≡ 0 → ⊥) → (i : ℕ) × T (bit d i)
+has-bit d k = go (some d (bit d)) refl
+  where
+    go : (b : Bool) → some d (bit d) ≡ b → (i : ℕ) × T (bit d i)
+    go true x = let (i, _, t) = of-some d (bit d) (rw x tt) in (i, t)
+    go false x = absurd (k (bit-ext d d 0 (below-pow d) (pow-pos d) (λ i l. at i l (bit d i) refl ∙ sym (bit-zero i))))
+      where
+        at : (i : ℕ) → i < d → (b : Bool) → bit d i ≡ b → bit d i ≡ false
+        at i l false y = y
+        at i l true y = absurd (subst T x (some-of d (bit d) i l (rw y tt)))

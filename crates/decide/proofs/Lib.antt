@@ -11,3 +11,6 @@ pub mod Showing
 pub mod RoundTriples
 pub mod RoundHeads
 pub mod Done
+pub mod Choosing
+pub mod Turning
+pub mod Found

@@ -23,7 +23,7 @@ use Rattle.bits.proofs.Bit.{bit-or, bit-xor, bit-zero, bit-past, bit-ext, xor}
 use Rattle.bits.proofs.Set.{bit-pow, one-shifted}
 use Rattle.bits.specs.Matrix.{entry, mat, mats, some, multiplied}
 use Rattle.bits.proofs.Matrix.{multiplied-at}
-use Rattle.bits.proofs.Some.{of-some, some-of}
+use Rattle.bits.proofs.Some.{of-some, some-of, below-pow}
 use Rattle.decide.specs.Stamp.{Sort, of-heads, of-triples, viewOf, cellsOf, Became, Entries, alone, named, ranked, Inside, Stamps}
 use Rattle.decide.specs.Take.{Took, Room, Within, Fits}
 use Rattle.decide.proofs.Gathered.{mat-or}
@@ -143,10 +143,6 @@ room-after a r = record { few = r .few; matrices = a .as-long ∙ r .matrices; l
 -- the matrix of one symbol
 eight : 0 < 8
 eight = zero-lt-suc 7
-
-below-pow : (n : ℕ) → n < 2 ^ n
-below-pow zero = zero-lt-suc 0
-below-pow (suc n) = omega (arith, below-pow n, pow-suc 2 n)
 
 module _ (s : Sort) (z : Size) (k g m : ℕ) (small : m < 2 ^ 64) (e ts : List ℕ) where
   abbrev old : ℕ

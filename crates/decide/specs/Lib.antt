@@ -6,3 +6,5 @@ pub mod Take
 pub mod Show
 pub mod Frame
 pub mod Standing
+pub mod Turn
+pub mod Driven

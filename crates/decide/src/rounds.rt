@@ -1,16 +1,23 @@
 // The rounds: one round, the choice of the rules for the next, and the rounds until a verdict or the end of the budget.
 ghost use mathlib.Core.Path.{_≡_};
+ghost use Prim.Native.Nat.{ℕ, _<_};
+ghost use lib.Dec.{T};
+ghost use Rattle.bits.specs.Bit.{bit};
 ghost use Rattle.decide.specs.Standing.{Ready, Scratch, RoundDone};
+ghost use Rattle.decide.specs.Turn.{Turns, TurnDone};
+ghost use Rattle.decide.specs.Driven.{violations, Driving, Driven};
+use crate::Decision;
 use crate::heads::settle_heads;
 use crate::heads::show_all;
+use crate::sets::collect;
 use crate::triples::gather;
 use crate::triples::settle_all;
 use table::Size;
 
 // The sets of the symbols whose triples and whose heads a round changed.
-pub struct Changed {
-    pub triples: u64,
-    pub heads: u64,
+struct Changed {
+    triples: u64,
+    heads: u64,
 }
 
 // Round k, of the rules in the sets wt, for triples, and wh, for heads. What is gathered is settled only when all is gathered.
@@ -41,4 +48,64 @@ fn round(
         triples: ce,
         heads: ch,
     }
+}
+
+// Whether a round added a fact, as a number that is 0 if it did not; the symbols with a new head; and the rules for the next round.
+struct Next {
+    more: u64,
+    changed: u64,
+    wt: [u64; 4],
+    wh: [u64; 4],
+}
+
+// Round k, and the choice of the rules for the next.
+fn turn(
+    size: Size,
+    k: u16,
+    wt: [u64; 4],
+    wh: [u64; 4],
+    rules: &[u8; 1024],
+    sy: &[u8; 256],
+    tg: &[u64; 256],
+    us: &[u64; 384],
+    by: &mut [u64; 256],
+    nh: &mut [u64; 32],
+    e: &mut [u64; 32],
+    hd: &mut [u64; 32],
+    heads: &mut [u16],
+    triples: &mut [u16],
+) -> Next
+    requires { ⌜ Turns size k wt wh (now rules) (now sy) (now tg) (now us) (now e) (now hd) (now heads) (now triples) ⌝ }
+    requires { ⌜ Scratch (now by) (now nh) ⌝ }
+    ensures { λ r. ⌜ TurnDone size k wt wh (now (rules .entry)) (now (sy .entry)) (now (tg .entry)) (now (us .entry)) (now (e .entry)) (now (hd .entry)) (now (heads .entry)) (now (triples .entry)) (r .more) (r .changed) (r .wt) (r .wh) (now (by .exit)) (now (nh .exit)) (now (e .exit)) (now (hd .exit)) (now (heads .exit)) (now (triples .exit)) ⌝ }
+{
+    let c = round(size, k, wt, wh, rules, sy, tg, by, nh, e, hd, heads, triples);
+    let ce = c.triples;
+    let ch = c.heads;
+    let for_triples = collect(us, 0, ce, [0u64; 4]);
+    let by_triples = collect(us, 32, ce, [0u64; 4]);
+    let for_heads = collect(us, 64, ch, by_triples);
+    Next {
+        more: ce | ch,
+        changed: ch,
+        wt: for_triples,
+        wh: for_heads,
+    }
+}
+
+// The final states of violating facts: in which symbol g is erased from state q, or a symbol that changed has a head.
+fn look(fins: u64, changed: u64, hd: &[u64; 32], e: &[u64; 32], q: usize, g: usize) -> u64
+    requires { ⌜ q < 8 ⌝ }
+    requires { ⌜ g < 32 ⌝ }
+    requires { ⌜ ((s : ℕ) → T (bit changed s) → s < 32) ⌝ }
+    ensures { λ r. ⌜ ((x : ℕ) → bit r x ≡ violations fins changed (now (hd .entry)) (now (e .entry)) q g x) ⌝ }
+{
+    let mut r = (e[g] >> (8 * (q as u64))) & fins;
+    let mut d = changed;
+    while d != 0 {
+        let s = u64::trailing_zeros(d) as usize;
+        d = d & (d - 1);
+        r = r | (hd[s] & fins);
+    }
+    r
 }

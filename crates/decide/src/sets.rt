@@ -2,6 +2,9 @@
 ghost use mathlib.Core.Path.{_≡_};
 ghost use Prim.Native.Nat.{ℕ, _<_, _+_, _≤_, _*_, _^_};
 ghost use lib.ListN.{length, getD};
+ghost use lib.Dec.{T};
+ghost use Rattle.bits.specs.Bit.{bit};
+ghost use Rattle.decide.specs.Turn.{Collected};
 ghost use Rattle.decide.specs.Sets.{With, FirstWord, Picked, Joined, Put};
 
 // A member of a set, or 256 where it has none, and the set without it.
@@ -96,4 +99,22 @@ pub fn put(sets: &mut [u64; 384], s: usize, r: usize)
 {
     let at = s * 4 + r / 64;
     sets[at] = sets[at] | (1u64 << ((r % 64) as u64));
+}
+
+// The set with the members of those sets, from number `from` on, whose place stands in `places`.
+pub fn collect(sets: &[u64; 384], from: usize, places: u64, set: [u64; 4]) -> [u64; 4]
+    requires { ⌜ from + 32 ≤ 96 ⌝ }
+    requires { ⌜ ((g : ℕ) → T (bit places g) → g < 32) ⌝ }
+    requires { ⌜ length set ≡ 4 ⌝ }
+    ensures { λ r. ⌜ Collected (now (sets .entry)) from places set r ⌝ }
+{
+    let mut d = places;
+    let mut w = set;
+    while d != 0 {
+        let g = u64::trailing_zeros(d) as usize;
+        d = d & (d - 1);
+        let joined = join(w, sets, from + g);
+        w = joined;
+    }
+    w
 }
