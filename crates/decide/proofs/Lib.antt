@@ -14,3 +14,4 @@ pub mod Done
 pub mod Choosing
 pub mod Turning
 pub mod Found
+pub mod Going

@@ -109,3 +109,52 @@ fn look(fins: u64, changed: u64, hd: &[u64; 32], e: &[u64; 32], q: usize, g: usi
     }
     r
 }
+
+// The rounds, from round 0 on. The verdict looks at what the last round changed, and only the rules that this concerns go on.
+pub fn run(
+    size: Size,
+    fins: u64,
+    q: usize,
+    g: usize,
+    first: [u64; 4],
+    second: [u64; 4],
+    rules: &[u8; 1024],
+    sy: &[u8; 256],
+    tg: &[u64; 256],
+    us: &[u64; 384],
+    e: &mut [u64; 32],
+    hd: &mut [u64; 32],
+    heads: &mut [u16],
+    triples: &mut [u16],
+    budget: u32,
+) -> Decision
+    requires { ⌜ Driving size fins q g first second (now rules) (now sy) (now tg) (now us) (now e) (now hd) (now heads) (now triples) ⌝ }
+    ensures { λ r. ⌜ Driven size fins q g first second (now (rules .entry)) (now (sy .entry)) (now (tg .entry)) (now (us .entry)) (now (e .entry)) (now (hd .entry)) (now (heads .entry)) (now (triples .entry)) budget r (now (e .exit)) (now (hd .exit)) (now (heads .exit)) (now (triples .exit)) ⌝ }
+{
+    let mut by = [0u64; 256];
+    let mut nh = [0u64; 32];
+    let mut n: u16 = 0;
+    let mut more: u64 = 1;
+    let mut changed: u64 = 1u64 << (g as u64);
+    let mut wt = first;
+    let mut wh = second;
+    loop {
+        if look(fins, changed, hd, e, q, g) != 0 {
+            return Decision::Violation(n);
+        }
+        if more == 0 {
+            return Decision::Safe(n);
+        }
+        if budget <= n as u32 {
+            return Decision::Spent(budget);
+        }
+        n += 1;
+        let t = turn(
+            size, n, wt, wh, rules, sy, tg, us, &mut by, &mut nh, e, hd, heads, triples,
+        );
+        more = t.more;
+        changed = t.changed;
+        wt = t.wt;
+        wh = t.wh;
+    }
+}
