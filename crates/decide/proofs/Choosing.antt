@@ -25,6 +25,7 @@ use Rattle.decide.specs.Standing.{Sets}
 use Rattle.decide.specs.Turn.{collected, Collected, UsesOf, Uses}
 use Rattle.decide.proofs.Members.{or-false}
 use Rattle.decide.proofs.Gathered.{or-assoc}
+use Rattle.decide.proofs.Emptied.{zeros-at}
 
 -- what is left to collect, with the set as it is, makes what was asked
 pub record Left (us : List ℕ) (from changed : ℕ) (w₀ : List ℕ) (d : ℕ) (w : List ℕ) : Type 0 where
@@ -70,11 +71,6 @@ chosen-small w r long t = go (decLt (r / 64) 4)
     go : Dec (r / 64 < 4) → r < 256
     go (yes l) = div-lt-iff-lt-mul {k = 64} (zero-lt-suc 63) .0 l
     go (no l) = absurd (subst T (ap (λ n. bit n (r % 64)) (List·getD-eq-default w 0 (omega (arith, long))) ∙ bit-zero (r % 64)) t)
-
-zeros-at : (n g : ℕ) → _≡_ {A = ℕ} (getD (replicate n 0) g 0) 0
-zeros-at zero g = refl
-zeros-at (suc n) zero = refl
-zeros-at (suc n) (suc g) = zeros-at n g
 
 pub no-member : (r : ℕ) → T (chosen (replicate {A = ℕ} 4 0) r) → ⊥
 unfolding chosen

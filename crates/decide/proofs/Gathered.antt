@@ -108,11 +108,6 @@ pub record Left (rs e w by₀ left t by : List ℕ) : Type 0 where
   pub entries : (c q x : ℕ) → mats by c q x || addedBy rs e left c q x ≡ mats by₀ c q x || addedBy rs e w c q x
   pub covers : Covers t by
 
-zeros-at : (n g : ℕ) → _≡_ {A = ℕ} (getD (replicate n 0) g 0) 0
-zeros-at zero g = refl
-zeros-at (suc n) zero = refl
-zeros-at (suc n) (suc g) = zeros-at n g
-
 module _ {rs e w by₀ : List ℕ} where
   pub left-first : {t : List ℕ} → length w ≡ 4 → Empty 256 by₀ → length t ≡ 4 → Left rs e w by₀ w t by₀
   left-first h z l = record { long = h; entries = λ c q x. refl; covers = record { few = l; long = z .long; empty = λ c _. z .empty c } }

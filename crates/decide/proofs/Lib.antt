@@ -15,3 +15,4 @@ pub mod Choosing
 pub mod Turning
 pub mod Found
 pub mod Going
+pub mod Emptied
