@@ -16,3 +16,5 @@ pub mod Turning
 pub mod Found
 pub mod Going
 pub mod Emptied
+pub mod Building
+pub mod Tested

@@ -8,3 +8,5 @@ pub mod Frame
 pub mod Standing
 pub mod Turn
 pub mod Driven
+pub mod Build
+pub mod Ran

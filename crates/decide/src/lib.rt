@@ -1,4 +1,14 @@
 // The decision: rounds over the two lent arrays until a violating fact is held, a round adds nothing, or the budget is spent.
+ghost use mathlib.Core.Path.{_≡_};
+ghost use Rattle.decide.specs.Decided.{Decided};
+ghost use Rattle.decide.specs.Ran.{Able, Started, Ran};
+use crate::build::exits;
+use crate::build::final_states;
+use crate::build::symbols;
+use crate::build::uses;
+use crate::sets::collect;
+use model::Model;
+use table::Size;
 
 // A verdict with its rounds, or a refusal: 6, 7, and 8 with the budget.
 pub enum Decision {
@@ -14,3 +24,70 @@ mod stamps; // the ranks of new facts
 mod triples; // a round of the triples
 mod heads; // a round of the heads
 mod rounds; // the rounds
+mod build; // what they are run on
+
+// Round 0 in the arrays: the start head alone.
+fn start(heads: &mut [u16], triples: &mut [u16], size: Size, q: usize, g: usize)
+    ensures { λ _. ⌜ Started size q g (now (heads .entry)) (now (triples .entry)) (now (heads .exit)) (now (triples .exit)) ⌝ }
+{
+    table::clear(heads, table::head_count(size));
+    table::clear(triples, table::triple_count(size));
+    table::put_head(heads, size, q, g, 0);
+}
+
+// The rounds of a valid model, in arrays that are long enough.
+fn run(heads: &mut [u16], triples: &mut [u16], m: Model, budget: u32) -> Decision
+    requires { ⌜ Able m (now heads) (now triples) ⌝ }
+    ensures { λ r. ⌜ Ran m budget (now (heads .entry)) (now (triples .entry)) r (now (heads .exit)) (now (triples .exit)) ⌝ }
+{
+    let size = Size {
+        symbols: m.symbols,
+        states: m.states,
+    };
+    let q = m.startstate as usize;
+    let g = m.startsymbol as usize;
+    start(heads, triples, size, q, g);
+    let tg = steps::class_steps(&m.moverows, &m.shows, m.moves, m.symbols as usize);
+    let sy = symbols();
+    let us = uses(&m.rulerows, m.rules);
+    let first = exits(&m.rulerows, m.rules);
+    let second = collect(&us, 64, 1u64 << (g as u64), [0u64; 4]);
+    let fins = final_states(&m.finals);
+    let mut e = [0u64; 32];
+    let mut hd = [0u64; 32];
+    hd[g] = 1u64 << (q as u64);
+    rounds::run(
+        size,
+        fins,
+        q,
+        g,
+        first,
+        second,
+        &m.rulerows,
+        &sy,
+        &tg,
+        &us,
+        &mut e,
+        &mut hd,
+        heads,
+        triples,
+        budget,
+    )
+}
+
+// Decides a model within a budget of rounds, and leaves in the arrays the ranks of the facts held. Nothing is written on 6 and 7.
+pub fn decide(m: Model, budget: u32, heads: &mut [u16], triples: &mut [u16]) -> Decision
+    ensures { λ r. ⌜ Decided m budget (now (heads .entry)) (now (triples .entry)) r (now (heads .exit)) (now (triples .exit)) ⌝ }
+{
+    if !model::is_valid(m) {
+        return Decision::Invalid;
+    }
+    let size = Size {
+        symbols: m.symbols,
+        states: m.states,
+    };
+    if !table::long_enough(heads, triples, size) {
+        return Decision::Short;
+    }
+    run(heads, triples, m, budget)
+}
