@@ -18,3 +18,5 @@ pub mod Going
 pub mod Emptied
 pub mod Building
 pub mod Tested
+pub mod Framed
+pub mod Starting

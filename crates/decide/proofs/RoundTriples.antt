@@ -122,9 +122,12 @@ module _ (p : Product) (R : InRange p) (Q : ℕ) (rs sy tg : List ℕ) (F : Fram
       -- a rule of the class
       rests-of : (c k x : ℕ) → T (restsOf p (classAt rs) (chosen w) h c k x) → (r : ℕ) × (r < p .rules) × (classAt rs r ≡ c) × T (rest (p .states) h (p .rule r) k x)
       rests-of c k x t =
-          let (r, i, _, u) = middle (upTo (p .rules)) (chosen w) (λ r. eqb (classAt rs r) c && rest (p .states) h (p .rule r) k x) t in
-          (r, upTo-lt (p .rules) r i, eqb→eq (classAt rs r) c (and-left (eqb (classAt rs r) c) (rest (p .states) h (p .rule r) k x) u),
-          and-right (eqb (classAt rs r) c) (rest (p .states) h (p .rule r) k x) u)
+          let (r, i, _, u) = middle (upTo (p .rules)) (chosen w) (λ r. eqb (classAt rs r) c && rest (p .states) h (p .rule r) k x) t in (
+            r,
+            upTo-lt (p .rules) r i,
+            eqb→eq (classAt rs r) c (and-left (eqb (classAt rs r) c) (rest (p .states) h (p .rule r) k x) u),
+            and-right (eqb (classAt rs r) c) (rest (p .states) h (p .rule r) k x) u,
+          )
 
       rests-in : (c k x : ℕ) → k < Q → T (restsOf p (classAt rs) (chosen w) h c k x) → x < Q
       rests-in c k x l t = let (r, _, _, u) = rests-of c k x t in rest-in (p .rule r) k x l u

@@ -93,14 +93,7 @@ pub fn show_all(
 }
 
 // The row of symbol g takes in m, and its new heads get the rank k. Answers the set of g if there is one, and else the empty set.
-fn take_heads(
-    size: Size,
-    g: usize,
-    m: u64,
-    k: u16,
-    hd: &mut [u64; 32],
-    heads: &mut [u16],
-) -> u64
+fn take_heads(size: Size, g: usize, m: u64, k: u16, hd: &mut [u64; 32], heads: &mut [u16]) -> u64
     requires { ⌜ Room of-heads size (now hd) (now heads) ⌝ }
     requires { ⌜ Fits of-heads size g m ⌝ }
     ensures { λ w. ⌜ Took of-heads size k (alone g m) (now (hd .entry)) (now (heads .entry)) w (now (hd .exit)) (now (heads .exit)) ⌝ }

@@ -79,7 +79,21 @@ fn turn(
     requires { ⌜ Scratch (now by) (now nh) ⌝ }
     ensures { λ r. ⌜ TurnDone size k wt wh (now (rules .entry)) (now (sy .entry)) (now (tg .entry)) (now (us .entry)) (now (e .entry)) (now (hd .entry)) (now (heads .entry)) (now (triples .entry)) (r .more) (r .changed) (r .wt) (r .wh) (now (by .exit)) (now (nh .exit)) (now (e .exit)) (now (hd .exit)) (now (heads .exit)) (now (triples .exit)) ⌝ }
 {
-    let c = round(size, k, wt, wh, rules, sy, tg, by, nh, e, hd, heads, triples);
+    let c = round(
+        size,
+        k,
+        wt,
+        wh,
+        rules,
+        sy,
+        tg,
+        by,
+        nh,
+        e,
+        hd,
+        heads,
+        triples,
+    );
     let ce = c.triples;
     let ch = c.heads;
     let for_triples = collect(us, 0, ce, [0u64; 4]);
@@ -150,7 +164,20 @@ pub fn run(
         }
         n += 1;
         let t = turn(
-            size, n, wt, wh, rules, sy, tg, us, &mut by, &mut nh, e, hd, heads, triples,
+            size,
+            n,
+            wt,
+            wh,
+            rules,
+            sy,
+            tg,
+            us,
+            &mut by,
+            &mut nh,
+            e,
+            hd,
+            heads,
+            triples,
         );
         more = t.more;
         changed = t.changed;

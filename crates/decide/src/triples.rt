@@ -72,12 +72,7 @@ fn visit(
 }
 
 // The rules of a set. Answers the set of the classes that have something.
-pub fn gather(
-    set: [u64; 4],
-    rules: &[u8; 1024],
-    e: &[u64; 32],
-    by: &mut [u64; 256],
-) -> [u64; 4]
+pub fn gather(set: [u64; 4], rules: &[u8; 1024], e: &[u64; 32], by: &mut [u64; 256]) -> [u64; 4]
     requires { ⌜ length set ≡ 4 ⌝ }
     requires { ⌜ Empty 256 (now by) ⌝ }
     ensures { λ t. ⌜ Gains (addedBy (now (rules .entry)) (now (e .entry)) set) (now (by .entry)) t (now (by .exit)) ⌝ }

@@ -1,3 +1,4 @@
+use Rattle.decide.proofs.Starting.{started-is}
 use native.Mathlib.Omega.{arith}
 use borrow.Author.Needs.{needs}
 use Rattle.decide.proofs.start.Statement.{statement}
@@ -39,7 +40,7 @@ same-length-2 c = search needs
 
 -- src/lib.rt:30:1
 returns : tie.Need-returns
-returns c = search needs
+returns c = started-is _ _ _ _ _ (c .before .before .before .before .before .before .before .before .before .before .before .before .head-count .ensures) (c .before .before .before .before .before .before .before .triple-count .ensures) (c .before .before .before .before .before .before .before .before .before .before .before .clear .last .0) (c .before .before .before .before .before .before .before .before .before .before .before .clear .ensures) (c .before .before .before .before .before .before .clear2 .ensures) (c .before .before .put-head .ensures)
 
 pub start-spec : {M : Type 1} → statement M
 start-spec =
