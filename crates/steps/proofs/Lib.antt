@@ -1,0 +1,4 @@
+pub mod Words
+pub mod Events
+pub mod Built
+pub mod Laws
