@@ -82,5 +82,10 @@ pub fn rule_closed<'a>(triples: &'a [u64; 32], heads: &'a [u64; 32], steps: u64,
     if !included(erasing(triples, steps, rule), of_symbol(triples, g)) {
         return false;
     }
-    heads_there(triples, heads, bits::through(of_symbol(heads, g), steps), rule)
+    heads_there(
+        triples,
+        heads,
+        bits::through(of_symbol(heads, g), steps),
+        rule,
+    )
 }
