@@ -3,7 +3,7 @@
 use mathlib.Core.Bool.{Bool}
 use mathlib.Core.List.{List, [], _∷_}
 use mathlib.Core.Path.{_≡_}
-use Prim.Native.Nat.{ℕ}
+use Prim.Native.Nat.{ℕ, _<_}
 use lib.ListN.{length, take}
 use Rattle.product.specs.Lists.{over, upTo}
 use Rattle.product.specs.Product.{Step}
@@ -21,6 +21,8 @@ use Rattle.model.specs.declared.Next.{Next}
 use Rattle.model.specs.Answers.{ruleAs, nextAs, meant, landed}
 use Rattle.model.specs.Model.{ruleAt, nextAt}
 use Rattle.model.specs.Valid.{valid}
+use Rattle.bits.specs.Matrix.{multiplied, image}
+use Rattle.steps.specs.Steps.{classOf, classSteps, statesAfter}
 use Rattle.line.specs.declared.Word.{Word}
 use Rattle.line.specs.declared.Line.{Line}
 use Rattle.line.specs.Line.{lineOf}
@@ -35,6 +37,7 @@ use Rattle.splitter.specs.Part.{listingOf, modelPart}
 use Rattle.print.specs.Bytes.{fieldBytes, lineBytes, namedBytes}
 use Rattle.text.specs.Put.{placeIn, Put}
 use Rattle.kept.specs.Kept.{inTable, nextKept}
+use Rattle.closed.specs.Closed.{ruleClosed}
 use Rattle.ways.specs.Taken.{arrays, allTaken}
 use Rattle.rounds.specs.Round.{startOf, roundOf}
 use Rattle.explain.specs.declared.Counts.{Counts}
@@ -77,6 +80,13 @@ pub record OneAnswer : Type 0 where
   pub is-valid : (m : Model) → One (λ b. b ≡ valid m)
   pub rule-at : (rulerows : List ℕ) (r : ℕ) → One (λ ρ. ρ ≡ ruleAs (ruleAt rulerows r))
   pub next-state : (rulerows moverows : List ℕ) (shows : List Bool) (r v q : ℕ) → One (λ n. n ≡ nextAs (nextAt rulerows moverows shows r v q))
+  -- bits
+  pub product : (a b : ℕ) → One (λ r. r ≡ multiplied a b)
+  pub through : (v b : ℕ) → One (λ r. r ≡ image v b)
+  -- steps
+  pub class-steps : (moverows : List ℕ) (shows : List Bool) (moves symbols : ℕ) → One (λ r. r ≡ classSteps moverows shows moves symbols)
+  pub class-of : (rulerows : List ℕ) (r : ℕ) → One (λ c. (c ≡ classOf rulerows r) × (c < 256))
+  pub states-after : (rulerows tg : List ℕ) (r from : ℕ) → One (λ x. x ≡ statesAfter rulerows tg r from)
   -- line
   pub read-line : (s : List ℕ) → One (λ r. r ≡ lineOf (split 9 s))
   -- limits and draft
@@ -103,6 +113,8 @@ pub record OneAnswer : Type 0 where
   -- kept
   pub has-head : (z : Size) (heads : List ℕ) (q g : ℕ) → One (λ b. b ≡ inTable z heads [] (head q g))
   pub next-kept : (z : Size) (heads triples : List ℕ) (q : ℕ) (ρ : Rule) (n : Next) → One (λ b. b ≡ nextKept (z .states) (inTable z heads triples) q (meant ρ) (landed n))
+  -- closed
+  pub rule-closed : (triples heads : List ℕ) (steps : ℕ) (ρ : Rule) → One (λ b. b ≡ ruleClosed triples heads steps (meant ρ))
   -- ways and rounds; a way is the same whatever step it is for
   pub consequences : (z : Size) (ρ : Rule) (q p k : ℕ) (heads triples : List ℕ)
       → Both (λ hs ts. (s : Step) → arrays hs ts ≡ allTaken z k (consequences (upTo (z .states)) s q p (meant ρ)) (arrays heads triples))

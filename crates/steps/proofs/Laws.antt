@@ -79,6 +79,16 @@ module _ (m : Model) (valid-m : T (valid m)) where
   abbrev tg : List ℕ
   tg = classSteps (m .moverows) (m .shows) (m .moves) (m .symbols)
 
+  -- the numbers of a move are in range
+  move-in : (v : ℕ) → v < m .moves → (move m v .source < m .states) × (move m v .event < m .events) × (move m v .target < m .states)
+  move-in v l =
+      let t = valid-move m valid-m v l in
+      let a : Bool = ltb (move m v .source) (m .states) in
+      let b : Bool = ltb (move m v .event) (m .events) in
+      let c : Bool = ltb (move m v .target) (m .states) in
+      let u : T (a && b) = and-left (a && b) c t in
+      (ltb→lt (move m v .source) (m .states) (and-left a b u), ltb→lt (move m v .event) (m .events) (and-right a b u), ltb→lt (move m v .target) (m .states) (and-right (a && b) c t))
+
   -- an entry is a move of an event that the symbol shows
   pub entry-is : (c q q′ : ℕ) → T (mats tg c q q′)
       → (c < m .symbols) × (v : ℕ) × (v < m .moves) × (move m v .source ≡ q) × T (showsAt (m .shows) c (move m v .event)) × (move m v .target ≡ q′)
@@ -101,13 +111,7 @@ module _ (m : Model) (valid-m : T (valid m)) where
   unfolding stepsBy
   is-entry c v i l s =
       let z = valid-sizes m valid-m in
-      let f = valid-move m valid-m v l in
-      let a : Bool = ltb (move m v .source) (m .states) in
-      let b : Bool = ltb (move m v .event) (m .events) in
-      let d : Bool = ltb (move m v .target) (m .states) in
-      let x : move m v .source < m .states = ltb→lt (move m v .source) (m .states) (and-left a b (and-left (a && b) d f)) in
-      let y : move m v .event < m .events = ltb→lt (move m v .event) (m .events) (and-right a b (and-left (a && b) d f)) in
-      let w : move m v .target < m .states = ltb→lt (move m v .target) (m .states) (and-right (a && b) d f) in
+      let (x, y, w) = move-in v l in
       subst⁻¹ T (steps-at (m .moverows) (m .shows) (m .moves) (m .symbols) c (move m v .source) (move m v .target))
       (rw (lt-ltb c (min (m .symbols) 32) (omega arith), lt-ltb (move m v .source) 8 (omega arith), lt-ltb (move m v .target) 8 (omega arith))
       (some-of (min (m .moves) 128) (λ w. stepBy (m .moverows) (m .shows) c w (move m v .source) (move m v .target)) v (omega arith)
@@ -120,11 +124,8 @@ module _ (m : Model) (valid-m : T (valid m)) where
   pub steps-in : (c q q′ : ℕ) → T (mats tg c q q′) → (q < m .states) × (q′ < m .states)
   steps-in c q q′ t =
       let (_, v, l, x, _, y) = entry-is c q q′ t in
-      let f = valid-move m valid-m v l in
-      let a : Bool = ltb (move m v .source) (m .states) in
-      let b : Bool = ltb (move m v .event) (m .events) in
-      let d : Bool = ltb (move m v .target) (m .states) in
-      (subst (λ n. n < m .states) x (ltb→lt (move m v .source) (m .states) (and-left a b (and-left (a && b) d f))), subst (λ n. n < m .states) y (ltb→lt (move m v .target) (m .states) (and-right (a && b) d f)))
+      let (i, _, j) = move-in v l in
+      (subst (λ n. n < m .states) x i, subst (λ n. n < m .states) y j)
 
   abbrev named : (r v : ℕ) → Step
   named r v = record { by-rule = r; by-move = v }

@@ -1,4 +1,4 @@
--- `recheck::closed::steps_kept` meets its contract. The loop's invariant: the steps from the states before q are kept. Assumes nothing.
+-- `recheck::search::steps_kept` meets its contract. The loop's invariant: the steps from the states before q are kept. Assumes nothing.
 use borrow.Author.Needs.{needs}
 use mathlib.Core.Bool.{true}
 use mathlib.Core.Path.{_≡_, refl}
@@ -10,8 +10,8 @@ use Rattle.model.proofs.Counted.{more, stop, done}
 use Rattle.kept.specs.Kept.{inTable}
 use Rattle.kept.proofs.Ways.{kept-read}
 use Rattle.recheck.specs.Tests.{stepKept}
-use Rattle.recheck.proofs.closed.steps_kept.Statement.{statement}
-use Rattle.recheck.proofs.closed.steps_kept.Tie as tie
+use Rattle.recheck.proofs.search.steps_kept.Statement.{statement}
+use Rattle.recheck.proofs.search.steps_kept.Tie as tie
 
 abbrev Inv-loop : tie.InvT-loop
 Inv-loop rulerows moverows shows heads triples size r v rule q₀ q = (q ≤ size .states) × (all (stepKept rulerows moverows shows (size .states) (inTable size heads triples) r v) (upTo q) ≡ true)

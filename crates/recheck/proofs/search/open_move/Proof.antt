@@ -1,4 +1,4 @@
--- `recheck::closed::open_move` meets its contract. The loop's invariant: no step of rule r and the moves before v is open. Assumes nothing.
+-- `recheck::search::open_move` meets its contract. The loop's invariant: no step of rule r and the moves before v is open. Assumes nothing.
 use mathlib.Core.List.{[], _∷_}
 use mathlib.Core.Option.{none}
 use mathlib.Core.Path.{_≡_, refl, sym, ap}
@@ -8,10 +8,10 @@ use Rattle.product.specs.Lists.{upTo, each, find}
 use Rattle.culprit.proofs.First.{find-more, find-here}
 use Rattle.kept.specs.Kept.{inTable}
 use Rattle.recheck.specs.Tests.{step, isClosed, isOpen, foundAs}
-use Rattle.recheck.proofs.Search.{hit, miss, nowhere}
+use Rattle.recheck.proofs.Finding.{hit, miss, nowhere}
 use borrow.Author.Needs.{needs}
-use Rattle.recheck.proofs.closed.open_move.Statement.{statement}
-use Rattle.recheck.proofs.closed.open_move.Tie as tie
+use Rattle.recheck.proofs.search.open_move.Statement.{statement}
+use Rattle.recheck.proofs.search.open_move.Tie as tie
 
 abbrev Inv-loop : tie.InvT-loop
 Inv-loop rulerows moverows shows heads triples size moves r v₀ v = (v ≤ moves) × (find (isOpen rulerows moverows shows (size .states) (inTable size heads triples)) (each (upTo v) (step r)) ≡ none)
