@@ -1,6 +1,6 @@
 // Writes the listing of a table: `safe` with rounds and counts, then each head and each triple that is present, with its rank.
 ghost use mathlib.Core.Path.{_≡_};
-ghost use Prim.Native.Nat.{ℕ, _+_, _≤_};
+ghost use Prim.Native.Nat.{ℕ, _+_, _-_, _≤_};
 ghost use lib.ListN.{length};
 ghost use Rattle.text.specs.Put.{Put};
 ghost use Rattle.printing.specs.Listing.{cellBytes, ifPresent, presentIn, cellsBytes, headerBytes, listingBytes};
@@ -9,6 +9,8 @@ ghost use Rattle.printing.specs.Writing.{Writes, Cell, Rows, Counts, Who
 use model::Model;
 use table::ABSENT;
 use table::Size;
+
+mod lay; // a line where it has room
 
 // What the cells of an array are of.
 pub enum Kind {
@@ -40,6 +42,19 @@ fn count(cells: &[u16], n: usize) -> u16
     present
 }
 
+// The most bytes of the line of a fact: `erase`, four numbers behind tabs, and a line feed.
+const LONGEST: usize = 30;
+
+// How many bytes have room in n from a place on.
+fn room(n: usize, at: usize) -> usize
+    ensures { λ r. ⌜ r ≡ n - at ⌝ }
+{
+    if n < at {
+        return 0;
+    }
+    n - at
+}
+
 // Puts the line of the head whose cell is i.
 fn put_head(out: &mut [u8], at: usize, size: Size, i: usize, rank: u16) -> usize
     requires { ⌜ Cell size i ⌝ }
@@ -48,7 +63,10 @@ fn put_head(out: &mut [u8], at: usize, size: Size, i: usize, rank: u16) -> usize
     let cell = i as u16;
     let g = size.symbols as u16;
     let row = [cell / g, cell % g, rank];
-    print::put_line(out, at, b"head", &row)
+    if room(out.len(), at) < LONGEST {
+        return print::put_line(out, at, b"head", &row);
+    }
+    lay::line(out, at, b"head", &row)
 }
 
 // Puts the line of the triple whose cell is i.
@@ -61,7 +79,10 @@ fn put_triple(out: &mut [u8], at: usize, size: Size, i: usize, rank: u16) -> usi
     let q = size.states as u16;
     let h = cell / q;
     let row = [h / g, h % g, cell % q, rank];
-    print::put_line(out, at, b"erase", &row)
+    if room(out.len(), at) < LONGEST {
+        return print::put_line(out, at, b"erase", &row);
+    }
+    lay::line(out, at, b"erase", &row)
 }
 
 // Puts the line of cell i, if it is present.
