@@ -4,7 +4,6 @@ use mathlib.Core.List.{List}
 use mathlib.Core.Path.{_≡_, sym, ap, _∙_}
 use Prim.Native.Nat.{ℕ}
 use Rattle.text.specs.Put.{Put}
-use Rattle.ways.specs.Taken.{Arrays, arrays}
 use Rattle.model.specs.declared.Model.{Model}
 use Rattle.ranking.specs.Rank.{Ranked}
 use Rattle.refusal.specs.declared.Seen.{Seen}
@@ -17,10 +16,6 @@ equal x r r′ e e′ = e ∙ sym e′
 -- bytes put into lent memory
 put : (out : List ℕ) (at : ℕ) (s : List ℕ) → Both (λ r after. Put out after at r s)
 put out at s r r′ after after′ a b = (a .place ∙ sym (b .place), a .cells ∙ sym (b .cells))
-
--- two arrays
-cells : (c : Arrays) → Both (λ hs ts. arrays hs ts ≡ c)
-cells c hs hs′ ts ts′ e e′ = (ap (λ c. c .0) (e ∙ sym e′), ap (λ c. c .1) (e ∙ sym e′))
 
 -- a fact's cell
 ranked : (before : List ℕ) (fault : ℕ) (put : List ℕ) → Both (λ r after. Ranked before after fault put r)
@@ -79,9 +74,6 @@ each-answer = record {
   has-head = λ z heads q g. equal _;
   next-kept = λ z heads triples q ρ n. equal _;
   rule-closed = λ triples heads steps ρ. equal _;
-  consequences = λ z ρ q p k heads triples hs hs′ ts ts′ e e′. cells _ hs hs′ ts ts′ (e (record { by-rule = 0; by-move = 0 })) (e′ (record { by-rule = 0; by-move = 0 }));
-  start = λ m heads triples. cells _;
-  round = λ m k heads triples. cells _;
   explain = λ rules moves shows heads triples n f. equal _;
   front = λ out k. equal _;
   put-violation = λ m whole rounds count out steps. put out 0 _;

@@ -38,8 +38,6 @@ use Rattle.print.specs.Bytes.{fieldBytes, lineBytes, namedBytes}
 use Rattle.text.specs.Put.{placeIn, Put}
 use Rattle.kept.specs.Kept.{inTable, nextKept}
 use Rattle.closed.specs.Closed.{ruleClosed}
-use Rattle.ways.specs.Taken.{arrays, allTaken}
-use Rattle.rounds.specs.Round.{startOf, roundOf}
 use Rattle.explain.specs.declared.Counts.{Counts}
 use Rattle.explain.specs.Answers.{foundAs, rankOf}
 use Rattle.explain.specs.Search.{whyIn, byRank}
@@ -115,11 +113,6 @@ pub record OneAnswer : Type 0 where
   pub next-kept : (z : Size) (heads triples : List ℕ) (q : ℕ) (ρ : Rule) (n : Next) → One (λ b. b ≡ nextKept (z .states) (inTable z heads triples) q (meant ρ) (landed n))
   -- closed
   pub rule-closed : (triples heads : List ℕ) (steps : ℕ) (ρ : Rule) → One (λ b. b ≡ ruleClosed triples heads steps (meant ρ))
-  -- ways and rounds; a way is the same whatever step it is for
-  pub consequences : (z : Size) (ρ : Rule) (q p k : ℕ) (heads triples : List ℕ)
-      → Both (λ hs ts. (s : Step) → arrays hs ts ≡ allTaken z k (consequences (upTo (z .states)) s q p (meant ρ)) (arrays heads triples))
-  pub start : (m : Model) (heads triples : List ℕ) → Both (λ hs ts. arrays hs ts ≡ startOf m (arrays heads triples))
-  pub round : (m : Model) (k : ℕ) (heads triples : List ℕ) → Both (λ hs ts. arrays hs ts ≡ roundOf m k (arrays heads triples))
   -- explain
   pub explain : (rules moves : List ℕ) (shows : List Bool) (heads triples : List ℕ) (n : Counts) (f : Goal)
       → One (λ w. w ≡ foundAs (byRank (whyIn rules moves shows (n .size .symbols) (n .size .states) heads triples (n .rules) (n .moves)) f (rankOf (view (n .size .symbols) (n .size .states) heads triples) f)))
