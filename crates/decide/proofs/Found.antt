@@ -68,7 +68,7 @@ module _ {fins changed : ℕ} {hd e : List ℕ} {q g : ℕ} where
       ∙ ap (λ d. bit r x || finalHeads fins d hd x) (sym z) ∙ l .is x
 
 -- and what they mean, where no other symbol has a head in a final state
-module _ (p : Product) (z : Size) (n : ℕ) (wt wh rs sy tg e hd hs ts : List ℕ) (b : Begins p z n wt wh rs sy tg e hd hs ts) (fins : ℕ) (f : Finals p fins)
+module _ (p : Product) (z : Size) (n : ℕ) (wt wh rs sy tg by e hd hs ts : List ℕ) (b : Begins p z n wt wh rs sy tg by e hd hs ts) (fins : ℕ) (f : Finals p fins)
     (changed : ℕ) (low : (s : ℕ) → T (bit changed s) → s < 32)
     (r : ℕ) (r-is : (x : ℕ) → bit r x ≡ violations fins changed hd e (p .start-state) (p .start-symbol) x) where
   R : InRange p

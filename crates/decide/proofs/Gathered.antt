@@ -17,7 +17,7 @@ use Rattle.bits.proofs.Bit.{bit-or, bit-zero}
 use Rattle.bits.proofs.Matrix.{multiplied-none}
 use Rattle.decide.specs.Sets.{chosen, among, With, Picked}
 use Rattle.decide.specs.Stamp.{Entries}
-use Rattle.decide.specs.Gather.{restOf, restAt, kindAt, classAt, overAt, underAt, added, addedBy, Covers, Gains, Empty}
+use Rattle.decide.specs.Gather.{restOf, restAt, kindAt, classAt, overAt, underAt, added, addedBy, Visits, Gains}
 use Rattle.decide.proofs.Members.{or-false, among-picked, among-none}
 
 -- what is run after a step
@@ -62,23 +62,27 @@ or-assoc true b c = refl
 or-assoc false b c = refl
 
 -- one rule
-module _ (rs e by t : List ℕ) (i : ℕ) (k : Covers t by) {m a b : ℕ} (m-is : m ≡ restOf (kindAt rs i) a b e) (a-is : a ≡ overAt rs i) (b-is : b ≡ underAt rs i) where
+module _ (rs e by t : List ℕ) (i : ℕ) (t-long : length t ≡ 4) (by-long : length by ≡ 256) {m a b : ℕ} (m-is : m ≡ restOf (kindAt rs i) a b e) (a-is : a ≡ overAt rs i) (b-is : b ≡ underAt rs i)
+    {c : ℕ} (c-is : c ≡ classAt rs i) (c-in : c < 256) where
   rest-is : m ≡ restAt rs e i
   unfolding restAt
   rest-is = m-is ∙ ap₂ (λ x y. restOf (kindAt rs i) x y e) a-is b-is
 
-  pub visit-none : m ≡ 0 → Gains (added rs e i) by t by
-  visit-none z = record {
-    entries = λ c q x. or-false (mats by c q x) ∙ ap (λ b. mats by c q x || b) (sym (ap (λ b. eqb (classAt rs i) c && b) (mat-none (restAt rs e i) q x (sym rest-is ∙ z)) ∙ off-and (eqb (classAt rs i) c)));
-    covers = k;
-  }
+  same-entry : (g q x : ℕ) → eqb c g && mat m q x ≡ added rs e i g q x
+  same-entry g q x = ap₂ (λ c m. eqb c g && mat m q x) c-is rest-is
 
-  module _ {c : ℕ} (c-is : c ≡ classAt rs i) (c-in : c < 256) {t′ : List ℕ} (marked : With t c t′) where
+  pub visit-none : bitOr (getD by c 0) m ≡ getD by c 0 → Visits (added rs e i) t by t by
+  visit-none z = record { few = t-long; long = by-long; entries = λ g q x. at g q x (ℕ-discrete c g) ∙ ap (λ b. mats by g q x || b) (same-entry g q x); same = λ g x. (x, refl) }
+    where
+      at : (g q x : ℕ) → Dec (c ≡ g) → mats by g q x ≡ mats by g q x || (eqb c g && mat m q x)
+      at g q x (yes y) =
+          subst (λ g. mats by g q x ≡ mats by g q x || (eqb c g && mat m q x)) y
+          (rw (eq-eqb c c refl) (ap (λ n. mat n q x) (sym z) ∙ mat-or (getD by c 0) m q x))
+      at g q x (no y) = rw (ne-eqb c g y) (or-false (mats by g q x))
+
+  module _ {t′ : List ℕ} (marked : With t c t′) where
     in-by : c < length by
-    in-by = omega (arith, k .long)
-
-    new : List ℕ
-    new = set by c (bitOr (getD by c 0) m)
+    in-by = omega (arith, by-long)
 
     entry-at : (g q x : ℕ) → Dec (c ≡ g) → mats (set by c (bitOr (getD by c 0) m)) g q x ≡ mats by g q x || (eqb c g && mat m q x)
     entry-at g q x (yes y) =
@@ -91,28 +95,31 @@ module _ (rs e by t : List ℕ) (i : ℕ) (k : Covers t by) {m a b : ℕ} (m-is 
     off-left false b x = refl
     off-left true b x = absurd (subst T x tt)
 
-    still : (g : ℕ) → chosen t′ g ≡ false → Dec (c ≡ g) → getD (set by c (bitOr (getD by c 0) m)) g 0 ≡ 0
+    still : (g : ℕ) → chosen t′ g ≡ false → Dec (c ≡ g) → (chosen t g ≡ false) × (getD (set by c (bitOr (getD by c 0) m)) g 0 ≡ getD by g 0)
     still g x (yes y) = absurd (subst T (sym (marked .is g) ∙ x) (or-right (chosen t g) (eqb c g) (subst⁻¹ T (eq-eqb c g y) tt)))
-    still g x (no y) =
-        getD-set-other by c g (bitOr (getD by c 0) m) 0 (λ z. y (sym z)) ∙ k .empty g (off-left (chosen t g) (eqb c g) (sym (marked .is g) ∙ x))
+    still g x (no y) = (off-left (chosen t g) (eqb c g) (sym (marked .is g) ∙ x), getD-set-other by c g (bitOr (getD by c 0) m) 0 (λ z. y (sym z)))
 
-    pub visit-some : Gains (added rs e i) by t′ (set by c (bitOr (getD by c 0) m))
+    pub visit-some : Visits (added rs e i) t by t′ (set by c (bitOr (getD by c 0) m))
     visit-some = record {
-      entries = λ g q x. entry-at g q x (ℕ-discrete c g) ∙ ap₂ (λ c m. mats by g q x || (eqb c g && mat m q x)) c-is rest-is;
-      covers = record { few = marked .long; long = length-set by c (bitOr (getD by c 0) m) ∙ k .long; empty = λ g x. still g x (ℕ-discrete c g) };
+      few = marked .long;
+      long = length-set by c (bitOr (getD by c 0) m) ∙ by-long;
+      entries = λ g q x. entry-at g q x (ℕ-discrete c g) ∙ ap (λ b. mats by g q x || b) (same-entry g q x);
+      same = λ g x. still g x (ℕ-discrete c g);
     }
 
 -- what is left to gather, with the matrices as they are, makes what was asked
 pub record Left (rs e w by₀ left t by : List ℕ) : Type 0 where
   pub long : length left ≡ 4
   pub entries : (c q x : ℕ) → mats by c q x || addedBy rs e left c q x ≡ mats by₀ c q x || addedBy rs e w c q x
-  pub covers : Covers t by
+  pub few : length t ≡ 4
+  pub by-long : length by ≡ 256
+  pub same : (c : ℕ) → chosen t c ≡ false → getD by c 0 ≡ getD by₀ c 0
 
 module _ {rs e w by₀ : List ℕ} where
-  pub left-first : {t : List ℕ} → length w ≡ 4 → Empty 256 by₀ → length t ≡ 4 → Left rs e w by₀ w t by₀
-  left-first h z l = record { long = h; entries = λ c q x. refl; covers = record { few = l; long = z .long; empty = λ c _. z .empty c } }
+  pub left-first : {t : List ℕ} → length w ≡ 4 → length by₀ ≡ 256 → length t ≡ 4 → Left rs e w by₀ w t by₀
+  left-first h z l = record { long = h; entries = λ c q x. refl; few = l; by-long = z; same = λ c _. refl }
 
-  pub left-next : {left left′ t t′ by by′ : List ℕ} {i : ℕ} → i < 256 → Picked left i left′ → Left rs e w by₀ left t by → Gains (added rs e i) by t′ by′ → Left rs e w by₀ left′ t′ by′
+  pub left-next : {left left′ t t′ by by′ : List ℕ} {i : ℕ} → i < 256 → Picked left i left′ → Left rs e w by₀ left t by → Visits (added rs e i) t by t′ by′ → Left rs e w by₀ left′ t′ by′
   unfolding addedBy
   left-next {left} {left′} {t} {t′} {by} {by′} {i} h p l g = record {
     long = p .long;
@@ -121,13 +128,17 @@ module _ {rs e w by₀ : List ℕ} where
         ∙ sym (or-assoc (mats by c q x) (added rs e i c q x) (addedBy rs e left′ c q x))
         ∙ ap (λ b. mats by c q x || b) (sym (among-picked left (λ i. added rs e i c q x) i left′ h p))
         ∙ l .entries c q x;
-    covers = g .covers;
+    few = g .few;
+    by-long = g .long;
+    same = λ c x. let (a, b) = g .same c x in b ∙ l .same c a;
   }
 
   pub left-last : {left left′ t by : List ℕ} {i : ℕ} → (i < 256 → ⊥) → Picked left i left′ → Left rs e w by₀ left t by → Gains (addedBy rs e w) by₀ t by
   unfolding addedBy
   left-last {left} {left′} {t} {by} h p l = record {
+    few = l .few;
+    long = l .by-long;
     entries = λ c q x.
         or-false (mats by c q x) ∙ ap (λ b. mats by c q x || b) (sym (among-none left (λ i. added rs e i c q x) (p .none h))) ∙ l .entries c q x;
-    covers = l .covers;
+    same = l .same;
   }

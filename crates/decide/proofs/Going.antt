@@ -25,15 +25,15 @@ use Rattle.decide.specs.declared.Decision.{Decision}
 use Rattle.decide.specs.declared.Decision.the-variants.{Violation, Safe, Spent}
 use Rattle.decide.specs.Decided.{meaning, within}
 use Rattle.decide.specs.Stamp.{of-heads, of-triples}
-use Rattle.decide.specs.Standing.{Begins, Standing, Kept, Scratch}
+use Rattle.decide.specs.Standing.{Begins, Standing, Kept}
 use Rattle.decide.specs.Turn.{Uses, Turns, After, TurnDone}
 use Rattle.decide.specs.Driven.{violations, Finals, Starts, Driving, Answers, Driven}
 use Rattle.decide.proofs.Found.{found, not-found}
 
 -- After round n: what stands, with the rules for the next; the rounds before it went on; `more` tells whether it added a fact, and of the symbols
 -- that are not in `changed` no head is in a final state.
-pub record At (p : Product) (z : Size) (budget : ℕ) (rs sy tg hs ts : List ℕ) (n more changed : ℕ) (wt wh e hd hs′ ts′ : List ℕ) : Type 0 where
-  pub begins : Begins p z n wt wh rs sy tg e hd hs′ ts′
+pub record At (p : Product) (z : Size) (budget : ℕ) (rs sy tg hs ts : List ℕ) (n more changed : ℕ) (wt wh by e hd hs′ ts′ : List ℕ) : Type 0 where
+  pub begins : Begins p z n wt wh rs sy tg by e hd hs′ ts′
   pub triples-kept : Kept of-triples z ts ts′
   pub heads-kept : Kept of-heads z hs hs′
   pub idle : more ≡ 0 → T (not (adds p n))
@@ -49,9 +49,9 @@ not-of true h = h tt
 
 module _ (z : Size) (fins q g : ℕ) (wt₀ wh₀ rs sy tg us e₀ hd₀ hs ts : List ℕ) (budget : ℕ) where
   -- for every product that the arrays hold
-  abbrev pub Going : (n more changed : ℕ) (wt wh e hd hs′ ts′ : List ℕ) → Type 0
-  Going n more changed wt wh e hd hs′ ts′ =
-      (p : Product) → Starts p z fins q g wt₀ wh₀ rs sy tg us e₀ hd₀ hs ts → At p z budget rs sy tg hs ts n more changed wt wh e hd hs′ ts′
+  abbrev pub Going : (n more changed : ℕ) (wt wh by e hd hs′ ts′ : List ℕ) → Type 0
+  Going n more changed wt wh by e hd hs′ ts′ =
+      (p : Product) → Starts p z fins q g wt₀ wh₀ rs sy tg us e₀ hd₀ hs ts → At p z budget rs sy tg hs ts n more changed wt wh by e hd hs′ ts′
 
   -- the numbers are in range
   pub small-state : Driving z fins q g wt₀ wh₀ rs sy tg us e₀ hd₀ hs ts → q < 8
@@ -62,7 +62,7 @@ module _ (z : Size) (fins q g : ℕ) (wt₀ wh₀ rs sy tg us e₀ hd₀ hs ts :
   pub small-symbol : Driving z fins q g wt₀ wh₀ rs sy tg us e₀ hd₀ hs ts → g < 32
   small-symbol (p, s) = omega (arith, s .symbol-is, s .begins .arrays .in-range .symbol-in, s .begins .arrays .symbols-are, s .begins .standing .triples-room .few)
 
-  pub going-first : Driving z fins q g wt₀ wh₀ rs sy tg us e₀ hd₀ hs ts → Going 0 1 ((1 * 2 ^ g) % 2 ^ 64) wt₀ wh₀ e₀ hd₀ hs ts
+  pub going-first : Driving z fins q g wt₀ wh₀ rs sy tg us e₀ hd₀ hs ts → Going 0 1 ((1 * 2 ^ g) % 2 ^ 64) wt₀ wh₀ (replicate {A = ℕ} 256 0) e₀ hd₀ hs ts
   unfolding adds grown
   going-first d p s = record {
     begins = s .begins;
@@ -81,7 +81,7 @@ module _ (z : Size) (fins q g : ℕ) (wt₀ wh₀ rs sy tg us e₀ hd₀ hs ts :
       start-bit : (x : ℕ) → bit ((1 * 2 ^ g) % 2 ^ 64) x ≡ eqb g x
       start-bit x = ap (λ n. bit n x) (one-shifted 64 g (let l = small-symbol d in omega arith)) ∙ bit-pow g x
 
-  module _ (n more changed : ℕ) (wt wh e hd hs′ ts′ : List ℕ) (G : Going n more changed wt wh e hd hs′ ts′) where
+  module _ (n more changed : ℕ) (wt wh by e hd hs′ ts′ : List ℕ) (G : Going n more changed wt wh by e hd hs′ ts′) where
     pub changed-low : Driving z fins q g wt₀ wh₀ rs sy tg us e₀ hd₀ hs ts → (s : ℕ) → T (bit changed s) → s < 32
     changed-low (p, s) = G p s .low
 
@@ -114,11 +114,11 @@ module _ (z : Size) (fins q g : ℕ) (wt₀ wh₀ rs sy tg us e₀ hd₀ hs ts :
       violates k p s =
           let b = G p s in
           answered p s (Violation n) (some (violation n)) refl
-          (sym (answer-of p budget (violation n) (b .goes, found p z n wt wh rs sy tg e hd hs′ ts′ (b .begins) fins (s .finals) changed (b .low) r (bits-at p s) k) (b .in-budget))) refl
+          (sym (answer-of p budget (violation n) (b .goes, found p z n wt wh rs sy tg by e hd hs′ ts′ (b .begins) fins (s .finals) changed (b .low) r (bits-at p s) k) (b .in-budget))) refl
 
       module _ (clean : r ≡ 0) where
         unviolated : (p : Product) → Starts p z fins q g wt₀ wh₀ rs sy tg us e₀ hd₀ hs ts → T (not (violated p n))
-        unviolated p s = not-found p z n wt wh rs sy tg e hd hs′ ts′ (G p s .begins) fins (s .finals) changed (G p s .low) r (bits-at p s) (G p s .others) clean
+        unviolated p s = not-found p z n wt wh rs sy tg by e hd hs′ ts′ (G p s .begins) fins (s .finals) changed (G p s .low) r (bits-at p s) (G p s .others) clean
 
         pub is-safe : more ≡ 0 → Driven z fins q g wt₀ wh₀ rs sy tg us e₀ hd₀ hs ts budget (Safe n) e hd hs′ ts′
         is-safe x p s =
@@ -143,7 +143,7 @@ module _ (z : Size) (fins q g : ℕ) (wt₀ wh₀ rs sy tg us e₀ hd₀ hs ts :
           pub room : Driving z fins q g wt₀ wh₀ rs sy tg us e₀ hd₀ hs ts → n < 2304
           room (p, s) = few p s (suc n) (goes-on p s)
 
-          pub turns : Driving z fins q g wt₀ wh₀ rs sy tg us e₀ hd₀ hs ts → Turns z (n + 1) wt wh rs sy tg us e hd hs′ ts′
+          pub turns : Driving z fins q g wt₀ wh₀ rs sy tg us e₀ hd₀ hs ts → Turns z (n + 1) wt wh rs sy tg us by e hd hs′ ts′
           turns (p, s) = (p, n, add-one n, G p s .begins, s .uses)
 
           -- no head of the round before is in a final state
@@ -154,7 +154,7 @@ module _ (z : Size) (fins q g : ℕ) (wt₀ wh₀ rs sy tg us e₀ hd₀ hs ts :
               T-not′ true u t = u
 
           pub next : {more′ changed′ : ℕ} {wt′ wh′ by′ nh′ e′ hd′ hs″ ts″ : List ℕ} → n < budget
-              → TurnDone z (n + 1) wt wh rs sy tg us e hd hs′ ts′ more′ changed′ wt′ wh′ by′ nh′ e′ hd′ hs″ ts″ → Going (n + 1) more′ changed′ wt′ wh′ e′ hd′ hs″ ts″
+              → TurnDone z (n + 1) wt wh rs sy tg us by e hd hs′ ts′ more′ changed′ wt′ wh′ by′ nh′ e′ hd′ hs″ ts″ → Going (n + 1) more′ changed′ wt′ wh′ by′ e′ hd′ hs″ ts″
           next l t p s =
               let b = G p s in
               let a = t .turned p n (add-one n) (b .begins) (s .uses) in

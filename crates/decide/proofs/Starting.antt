@@ -39,7 +39,7 @@ use Rattle.decide.specs.Sets.{member, chosen}
 use Rattle.decide.specs.Stamp.{of-heads, of-triples, viewOf}
 use Rattle.decide.specs.Gather.{kindAt, classAt, overAt, underAt}
 use Rattle.decide.specs.Frame.{ruleBy}
-use Rattle.decide.specs.Standing.{Standing, Sets}
+use Rattle.decide.specs.Standing.{Standing, Stored, Sets}
 use Rattle.decide.specs.Turn.{Collected, UsesOf, Uses}
 use Rattle.decide.specs.Driven.{Finals, Starts, Answers, Driven}
 use Rattle.decide.specs.Build.{SameSymbols, rowRule, UsesAll, Exits}
@@ -177,6 +177,13 @@ module _ (m : Model) (v : T (valid m)) where
       heads-room = record { few = valid-sizes m v .symbols; matrices = length-set (replicate {A = ℕ} 32 0) (m .startsymbol) ((1 * 2 ^ m .startstate) % 2 ^ 64); long = omega (arith, heads-as-long, able .heads-long) };
     }
 
+    nothing-stored : {sy tg : List ℕ} → Stored (productOf m) 0 (m .rulerows) sy tg (replicate {A = ℕ} 256 0)
+    nothing-stored = record {
+      long = refl;
+      sound = λ c k x t. absurd (subst T (mat-none (getD (replicate {A = ℕ} 256 0) c 0) k x (zeros-at 256 c)) t);
+      settled = λ c q′ k x _ t. absurd (subst T (mat-none (getD (replicate {A = ℕ} 256 0) c 0) k x (zeros-at 256 c)) t);
+    }
+
     finals-are : (fins : ℕ) → ((x : ℕ) → bit fins x ≡ ltb x 8 && getD (m .finals) x false) → Finals (productOf m) fins
     finals-are fins f = record {
       low = λ x t. ltb→lt x 8 (and-left (ltb x 8) (getD (m .finals) x false) (subst T (f x) t));
@@ -193,6 +200,7 @@ module _ (m : Model) (v : T (valid m)) where
         begins = record {
           arrays = record { in-range = product-in m v; frame = model-frame m v sy tg same-symbols tg-is; symbols-are = refl };
           sets = sets-first u a c;
+          stored = nothing-stored;
           standing = standing-first;
         };
         uses = uses-are u;

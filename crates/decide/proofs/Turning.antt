@@ -20,12 +20,12 @@ use Rattle.table.specs.declared.Size.{Size}
 use Rattle.bits.specs.Bit.{bit}
 use Rattle.bits.proofs.Bit.{bit-or, bit-zero}
 use Rattle.bits.proofs.Some.{has-bit}
-use Rattle.decide.specs.Standing.{Begins, Ends, RoundDone, Scratch}
+use Rattle.decide.specs.Standing.{Begins, Ends, RoundDone}
 use Rattle.decide.specs.Turn.{Collected, Uses, Turns, After, TurnDone}
 use Rattle.decide.proofs.Choosing.{sets-next}
 
-module _ (p : Product) (z : Size) (n : ℕ) (wt wh rs sy tg e hd hs ts : List ℕ) (b : Begins p z n wt wh rs sy tg e hd hs ts)
-    (ce ch : ℕ) (e′ hd′ hs′ ts′ : List ℕ) (s : Ends p z n hs ts ce ch e′ hd′ hs′ ts′) where
+module _ (p : Product) (z : Size) (n : ℕ) (wt wh rs sy tg by e hd hs ts : List ℕ) (b : Begins p z n wt wh rs sy tg by e hd hs ts)
+    (ce ch : ℕ) (by′ e′ hd′ hs′ ts′ : List ℕ) (s : Ends p z n rs sy tg hs ts ce ch by′ e′ hd′ hs′ ts′) where
   pub triples-low : (g : ℕ) → T (bit ce g) → g < 32
   triples-low g t =
       let (q, x, a, _) = s .triples-fresh g t in
@@ -76,12 +76,13 @@ module _ (p : Product) (z : Size) (n : ℕ) (wt wh rs sy tg e hd hs ts : List �
 
   module _ (us : List ℕ) (U : Uses p us) {wt′ wc wh′ : List ℕ}
       (jt : Collected us 0 ce (replicate {A = ℕ} 4 0) wt′) (jc : Collected us 32 ce (replicate {A = ℕ} 4 0) wc) (jh : Collected us 64 ch wc wh′) where
-    pub after-turn : After p z n rs sy tg hs ts (bitOr ce ch) ch wt′ wh′ e′ hd′ hs′ ts′
+    pub after-turn : After p z n rs sy tg hs ts (bitOr ce ch) ch wt′ wh′ by′ e′ hd′ hs′ ts′
     after-turn = record {
       begins = record {
         arrays = b .arrays;
         sets = sets-next p (b .arrays .in-range) (b .arrays .frame .few-rules) us U n ce ch triples-low heads-low
             record { triples = s .triples-quiet; heads = s .heads-quiet } jt jc jh;
+        stored = s .stored;
         standing = s .standing;
       };
       triples-kept = s .triples-kept;
@@ -93,19 +94,19 @@ module _ (p : Product) (z : Size) (n : ℕ) (wt wh rs sy tg e hd hs ts : List �
     }
 
 -- from what the functions say
-module _ (z : Size) (k : ℕ) (wt wh rs sy tg us e hd hs ts : List ℕ) {ce ch : ℕ} {by′ nh′ e′ hd′ hs′ ts′ : List ℕ}
-    (s : RoundDone z k wt wh rs sy tg e hd hs ts ce ch by′ nh′ e′ hd′ hs′ ts′) where
-  pub low-t : Turns z k wt wh rs sy tg us e hd hs ts → (g : ℕ) → T (bit ce g) → g < 32
-  low-t (p, n, x, b, _) = triples-low p z n wt wh rs sy tg e hd hs ts b ce ch e′ hd′ hs′ ts′ (s .rounded p n x b)
+module _ (z : Size) (k : ℕ) (wt wh rs sy tg us by e hd hs ts : List ℕ) {ce ch : ℕ} {by′ nh′ e′ hd′ hs′ ts′ : List ℕ}
+    (s : RoundDone z k wt wh rs sy tg by e hd hs ts ce ch by′ nh′ e′ hd′ hs′ ts′) where
+  pub low-t : Turns z k wt wh rs sy tg us by e hd hs ts → (g : ℕ) → T (bit ce g) → g < 32
+  low-t (p, n, x, b, _) = triples-low p z n wt wh rs sy tg by e hd hs ts b ce ch by′ e′ hd′ hs′ ts′ (s .rounded p n x b)
 
-  pub low-h : Turns z k wt wh rs sy tg us e hd hs ts → (g : ℕ) → T (bit ch g) → g < 32
-  low-h (p, n, x, b, _) = heads-low p z n wt wh rs sy tg e hd hs ts b ce ch e′ hd′ hs′ ts′ (s .rounded p n x b)
+  pub low-h : Turns z k wt wh rs sy tg us by e hd hs ts → (g : ℕ) → T (bit ch g) → g < 32
+  low-h (p, n, x, b, _) = heads-low p z n wt wh rs sy tg by e hd hs ts b ce ch by′ e′ hd′ hs′ ts′ (s .rounded p n x b)
 
   pub turn-done : {wt′ wc wh′ : List ℕ} → Collected us 0 ce (replicate {A = ℕ} 4 0) wt′ → Collected us 32 ce (replicate {A = ℕ} 4 0) wc → Collected us 64 ch wc wh′
-      → TurnDone z k wt wh rs sy tg us e hd hs ts (bitOr ce ch) ch wt′ wh′ by′ nh′ e′ hd′ hs′ ts′
+      → TurnDone z k wt wh rs sy tg us by e hd hs ts (bitOr ce ch) ch wt′ wh′ by′ nh′ e′ hd′ hs′ ts′
   turn-done jt jc jh = record {
-    turned = λ p n x b U. after-turn p z n wt wh rs sy tg e hd hs ts b ce ch e′ hd′ hs′ ts′ (s .rounded p n x b) us U jt jc jh;
-    scratch = s .scratch;
+    turned = λ p n x b U. after-turn p z n wt wh rs sy tg by e hd hs ts b ce ch by′ e′ hd′ hs′ ts′ (s .rounded p n x b) us U jt jc jh;
+    empty = s .empty;
     heads-long = s .heads-long;
     triples-long = s .triples-long;
   }

@@ -4,7 +4,7 @@ use mathlib.Core.List.{List}
 use mathlib.Core.Path.{_≡_}
 use Prim.Native.Nat.{ℕ, _+_, _*_, _<_}
 use lib.Dec.{T}
-use lib.ListN.{getD}
+use lib.ListN.{getD, replicate}
 use Rattle.product.specs.Product.{Product}
 use Rattle.product.specs.Verdict.{answer, ran}
 use Rattle.table.specs.declared.Size.{Size}
@@ -31,7 +31,7 @@ pub record Finals (p : Product) (fins : ℕ) : Type 0 where
 
 -- round 0 stands
 pub record Starts (p : Product) (z : Size) (fins q g : ℕ) (wt wh rs sy tg us e hd hs ts : List ℕ) : Type 0 where
-  pub begins : Begins p z 0 wt wh rs sy tg e hd hs ts
+  pub begins : Begins p z 0 wt wh rs sy tg (replicate {A = ℕ} 256 0) e hd hs ts
   pub uses : Uses p us
   pub finals : Finals p fins
   pub state-is : q ≡ p .start-state

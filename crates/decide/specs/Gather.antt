@@ -38,16 +38,19 @@ added rs e i c q x = eqb (classAt rs i) c && mat (restAt rs e i) q x
 unfoldable pub addedBy : (rs e w : List ℕ) → Entries
 addedBy rs e w c q x = among w (λ i. added rs e i c q x)
 
--- only the classes of the set t have a matrix that is not empty
-pub record Covers (t by : List ℕ) : Type 0 where
-  pub few : length t ≡ 4
-  pub long : length by ≡ 256
-  pub empty : (c : ℕ) → chosen t c ≡ false → getD by c 0 ≡ 0
-
--- the matrices took in the entries m
-pub record Gains (m : Entries) (by t′ by′ : List ℕ) : Type 0 where
+-- the matrices took in the entries m; a class that has more stands in the set t′
+pub record Visits (m : Entries) (t by t′ by′ : List ℕ) : Type 0 where
+  pub few : length t′ ≡ 4
+  pub long : length by′ ≡ 256
   pub entries : (c q x : ℕ) → mats by′ c q x ≡ mats by c q x || m c q x
-  pub covers : Covers t′ by′
+  pub same : (c : ℕ) → chosen t′ c ≡ false → (chosen t c ≡ false) × (getD by′ c 0 ≡ getD by c 0)
+
+-- from none in the set
+pub record Gains (m : Entries) (by t′ by′ : List ℕ) : Type 0 where
+  pub few : length t′ ≡ 4
+  pub long : length by′ ≡ 256
+  pub entries : (c q x : ℕ) → mats by′ c q x ≡ mats by c q x || m c q x
+  pub same : (c : ℕ) → chosen t′ c ≡ false → getD by′ c 0 ≡ getD by c 0
 
 -- all are empty
 pub record Empty (n : ℕ) (by : List ℕ) : Type 0 where

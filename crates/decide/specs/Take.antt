@@ -4,13 +4,12 @@ use mathlib.Core.List.{List}
 use mathlib.Core.Path.{_≡_}
 use Prim.Native.Nat.{ℕ, _%_, _≤_, _<_}
 use lib.Dec.{T}
-use lib.ListN.{length, getD, set}
+use lib.ListN.{length, getD}
 use Rattle.table.specs.declared.Size.{Size}
 use Rattle.bits.specs.Bit.{bit}
 use Rattle.bits.specs.Matrix.{mat, mats, multiplied}
 use Rattle.decide.specs.Sets.{among}
 use Rattle.decide.specs.Stamp.{Sort, of-heads, of-triples, viewOf, cellsOf, Became, Entries, alone, named, ranked}
-use Rattle.decide.specs.Gather.{Empty}
 
 -- The matrices e took in the entries m, and the table gave the new ones the rank k; w is the set of the symbols that have a new one.
 pub record Took (s : Sort) (z : Size) (k : ℕ) (m : Entries) (e xs : List ℕ) (w : ℕ) (e′ xs′ : List ℕ) : Type 0 where
@@ -50,12 +49,3 @@ fromClasses sy tg by t g q x = among t (λ c. fromClass sy tg by c g q x)
 
 abbrev pub AllFit : Size → (sy tg by : List ℕ) → Type 0
 AllFit z sy tg by = (c : ℕ) → Fits of-triples z (symbolAt sy c) (givenBy tg by c)
-
--- one class is settled, and its matrix empty; and all of a set
-pub record Settles (z : Size) (k c : ℕ) (sy tg by e ts : List ℕ) (w : ℕ) (by′ e′ ts′ : List ℕ) : Type 0 where
-  pub took : Took of-triples z k (fromClass sy tg by c) e ts w e′ ts′
-  pub cleared : by′ ≡ set by c 0
-
-pub record SettlesAll (z : Size) (k : ℕ) (t sy tg by e ts : List ℕ) (w : ℕ) (by′ e′ ts′ : List ℕ) : Type 0 where
-  pub took : Took of-triples z k (fromClasses sy tg by t) e ts w e′ ts′
-  pub empty : Empty 256 by′

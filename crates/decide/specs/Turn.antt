@@ -14,7 +14,8 @@ use Rattle.bits.specs.Bit.{bit}
 use Rattle.bits.specs.Matrix.{some}
 use Rattle.decide.specs.Sets.{member, chosen}
 use Rattle.decide.specs.Stamp.{of-heads, of-triples}
-use Rattle.decide.specs.Standing.{Begins, Kept, Scratch}
+use Rattle.decide.specs.Gather.{Empty}
+use Rattle.decide.specs.Standing.{Begins, Kept}
 
 -- r stands in one of the sets from number `from` on, those of the symbols that changed
 unfoldable pub collected : (us : List ℕ) → (from changed r : ℕ) → Bool
@@ -35,12 +36,12 @@ pub record Uses (p : Product) (us : List ℕ) : Type 0 where
   pub there : (r : ℕ) → r < p .rules → UsesOf us r (p .rule r)
   pub only : (s r : ℕ) → r < 256 → T (member us s r) → r < p .rules
 
-abbrev pub Turns : (z : Size) → (k : ℕ) → (wt wh rs sy tg us e hd hs ts : List ℕ) → Type 0
-Turns z k wt wh rs sy tg us e hd hs ts = (p : Product) × (n : ℕ) × (k ≡ suc n) × Begins p z n wt wh rs sy tg e hd hs ts × Uses p us
+abbrev pub Turns : (z : Size) → (k : ℕ) → (wt wh rs sy tg us by e hd hs ts : List ℕ) → Type 0
+Turns z k wt wh rs sy tg us by e hd hs ts = (p : Product) × (n : ℕ) × (k ≡ suc n) × Begins p z n wt wh rs sy tg by e hd hs ts × Uses p us
 
 -- What stands after round n + 1, with enough rules for the next. `more` is 0 exactly if the round added nothing; `changed` has the symbols with a new head.
-pub record After (p : Product) (z : Size) (n : ℕ) (rs sy tg hs ts : List ℕ) (more changed : ℕ) (wt′ wh′ e′ hd′ hs′ ts′ : List ℕ) : Type 0 where
-  pub begins : Begins p z (suc n) wt′ wh′ rs sy tg e′ hd′ hs′ ts′
+pub record After (p : Product) (z : Size) (n : ℕ) (rs sy tg hs ts : List ℕ) (more changed : ℕ) (wt′ wh′ by′ e′ hd′ hs′ ts′ : List ℕ) : Type 0 where
+  pub begins : Begins p z (suc n) wt′ wh′ rs sy tg by′ e′ hd′ hs′ ts′
   pub triples-kept : Kept of-triples z ts ts′
   pub heads-kept : Kept of-heads z hs hs′
   pub idle : more ≡ 0 → T (not (adds p (suc n)))
@@ -48,8 +49,8 @@ pub record After (p : Product) (z : Size) (n : ℕ) (rs sy tg hs ts : List ℕ) 
   pub low : (g : ℕ) → T (bit changed g) → g < 32
   pub quiet : (q g : ℕ) → bit changed g ≡ false → T (held p (suc n) (head q g)) → T (held p n (head q g))
 
-pub record TurnDone (z : Size) (k : ℕ) (wt wh rs sy tg us e hd hs ts : List ℕ) (more changed : ℕ) (wt′ wh′ by′ nh′ e′ hd′ hs′ ts′ : List ℕ) : Type 0 where
-  pub turned : (p : Product) (n : ℕ) → k ≡ suc n → Begins p z n wt wh rs sy tg e hd hs ts → Uses p us → After p z n rs sy tg hs ts more changed wt′ wh′ e′ hd′ hs′ ts′
-  pub scratch : Scratch by′ nh′
+pub record TurnDone (z : Size) (k : ℕ) (wt wh rs sy tg us by e hd hs ts : List ℕ) (more changed : ℕ) (wt′ wh′ by′ nh′ e′ hd′ hs′ ts′ : List ℕ) : Type 0 where
+  pub turned : (p : Product) (n : ℕ) → k ≡ suc n → Begins p z n wt wh rs sy tg by e hd hs ts → Uses p us → After p z n rs sy tg hs ts more changed wt′ wh′ by′ e′ hd′ hs′ ts′
+  pub empty : Empty 32 nh′
   pub heads-long : length hs′ ≡ length hs
   pub triples-long : length ts′ ≡ length ts

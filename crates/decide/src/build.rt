@@ -6,8 +6,8 @@ ghost use lib.Dec.{ltb};
 ghost use lib.ListN.{length, getD};
 ghost use Rattle.bits.specs.Bit.{bit};
 ghost use Rattle.decide.specs.Build.{SameSymbols, UsesPut, UsesAll, ExitPut, Exits};
+use crate::sets::add;
 use crate::sets::put;
-use crate::sets::with;
 use crate::triples::low;
 
 // The symbol of each class: with one location a class is its symbol.
@@ -57,16 +57,16 @@ pub fn uses(rules: &[u8; 1024], count: usize) -> [u64; 384]
     us
 }
 
-// The set with rule r, if it is an exit.
-fn put_exit(rules: &[u8; 1024], r: usize, set: [u64; 4]) -> [u64; 4]
+// Puts rule r into the set, if it is an exit.
+fn put_exit(rules: &[u8; 1024], r: usize, set: &mut [u64; 4])
     requires { ⌜ r < 256 ⌝ }
-    requires { ⌜ length set ≡ 4 ⌝ }
-    ensures { λ w. ⌜ ExitPut (now (rules .entry)) r set w ⌝ }
+    requires { ⌜ length (now set) ≡ 4 ⌝ }
+    ensures { λ _. ⌜ ExitPut (now (rules .entry)) r (now (set .entry)) (now (set .exit)) ⌝ }
 {
     if rules[4 * r] != 0 {
-        return set;
+        return;
     }
-    with(set, r)
+    add(set, r);
 }
 
 // The exits: the rules that give triples in the first round.
@@ -77,8 +77,7 @@ pub fn exits(rules: &[u8; 1024], count: usize) -> [u64; 4]
     let mut w = [0u64; 4];
     let mut r: usize = 0;
     while r < count {
-        let more = put_exit(rules, r, w);
-        w = more;
+        put_exit(rules, r, &mut w);
         r += 1;
     }
     w

@@ -82,13 +82,11 @@ pub fn show_all(
     let mut left = set;
     let mut touched: u64 = 0;
     loop {
-        let p = pick(left);
-        let i = p.member;
+        let i = pick(&mut left);
         if 256 <= i {
             return touched;
         }
         touched = touched | show(i, rules, sy, tg, e, hd, nh);
-        left = p.rest;
     }
 }
 

@@ -3,7 +3,8 @@ ghost use mathlib.Core.Path.{_≡_};
 ghost use Prim.Native.Nat.{ℕ, _<_};
 ghost use lib.Dec.{T};
 ghost use Rattle.bits.specs.Bit.{bit};
-ghost use Rattle.decide.specs.Standing.{Ready, Scratch, RoundDone};
+ghost use Rattle.decide.specs.Gather.{Empty};
+ghost use Rattle.decide.specs.Standing.{Ready, RoundDone};
 ghost use Rattle.decide.specs.Turn.{Turns, TurnDone};
 ghost use Rattle.decide.specs.Driven.{violations, Driving, Driven};
 use crate::Decision;
@@ -36,9 +37,9 @@ fn round(
     heads: &mut [u16],
     triples: &mut [u16],
 ) -> Changed
-    requires { ⌜ Ready size k wt wh (now rules) (now sy) (now tg) (now e) (now hd) (now heads) (now triples) ⌝ }
-    requires { ⌜ Scratch (now by) (now nh) ⌝ }
-    ensures { λ r. ⌜ RoundDone size k wt wh (now (rules .entry)) (now (sy .entry)) (now (tg .entry)) (now (e .entry)) (now (hd .entry)) (now (heads .entry)) (now (triples .entry)) (r .triples) (r .heads) (now (by .exit)) (now (nh .exit)) (now (e .exit)) (now (hd .exit)) (now (heads .exit)) (now (triples .exit)) ⌝ }
+    requires { ⌜ Ready size k wt wh (now rules) (now sy) (now tg) (now by) (now e) (now hd) (now heads) (now triples) ⌝ }
+    requires { ⌜ Empty 32 (now nh) ⌝ }
+    ensures { λ r. ⌜ RoundDone size k wt wh (now (rules .entry)) (now (sy .entry)) (now (tg .entry)) (now (by .entry)) (now (e .entry)) (now (hd .entry)) (now (heads .entry)) (now (triples .entry)) (r .triples) (r .heads) (now (by .exit)) (now (nh .exit)) (now (e .exit)) (now (hd .exit)) (now (heads .exit)) (now (triples .exit)) ⌝ }
 {
     let classes = gather(wt, rules, e, by);
     let symbols = show_all(wh, rules, sy, tg, e, hd, nh);
@@ -75,9 +76,9 @@ fn turn(
     heads: &mut [u16],
     triples: &mut [u16],
 ) -> Next
-    requires { ⌜ Turns size k wt wh (now rules) (now sy) (now tg) (now us) (now e) (now hd) (now heads) (now triples) ⌝ }
-    requires { ⌜ Scratch (now by) (now nh) ⌝ }
-    ensures { λ r. ⌜ TurnDone size k wt wh (now (rules .entry)) (now (sy .entry)) (now (tg .entry)) (now (us .entry)) (now (e .entry)) (now (hd .entry)) (now (heads .entry)) (now (triples .entry)) (r .more) (r .changed) (r .wt) (r .wh) (now (by .exit)) (now (nh .exit)) (now (e .exit)) (now (hd .exit)) (now (heads .exit)) (now (triples .exit)) ⌝ }
+    requires { ⌜ Turns size k wt wh (now rules) (now sy) (now tg) (now us) (now by) (now e) (now hd) (now heads) (now triples) ⌝ }
+    requires { ⌜ Empty 32 (now nh) ⌝ }
+    ensures { λ r. ⌜ TurnDone size k wt wh (now (rules .entry)) (now (sy .entry)) (now (tg .entry)) (now (us .entry)) (now (by .entry)) (now (e .entry)) (now (hd .entry)) (now (heads .entry)) (now (triples .entry)) (r .more) (r .changed) (r .wt) (r .wh) (now (by .exit)) (now (nh .exit)) (now (e .exit)) (now (hd .exit)) (now (heads .exit)) (now (triples .exit)) ⌝ }
 {
     let c = round(
         size,

@@ -7,28 +7,19 @@ ghost use Rattle.bits.specs.Bit.{bit};
 ghost use Rattle.decide.specs.Turn.{Collected};
 ghost use Rattle.decide.specs.Sets.{With, FirstWord, Picked, Joined, Put};
 
-// A member of a set, or 256 where it has none, and the set without it.
-pub struct Choice {
-    pub member: usize,
-    pub rest: [u64; 4],
-}
-
-// The set with c.
-pub fn with(set: [u64; 4], c: usize) -> [u64; 4]
-    requires { ⌜ length set ≡ 4 ⌝ }
+// Puts c into the set.
+pub fn add(set: &mut [u64; 4], c: usize)
+    requires { ⌜ length (now set) ≡ 4 ⌝ }
     requires { ⌜ c < 256 ⌝ }
-    ensures { λ r. ⌜ With set c r ⌝ }
+    ensures { λ _. ⌜ With (now (set .entry)) c (now (set .exit)) ⌝ }
 {
-    let mut w = set;
     let k = c / 64;
-    w[k] = w[k] | (1u64 << ((c % 64) as u64));
-    w
+    set[k] = set[k] | (1u64 << ((c % 64) as u64));
 }
 
 // The first word that is not empty, or 4.
-fn first_word(set: [u64; 4]) -> usize
-    requires { ⌜ length set ≡ 4 ⌝ }
-    ensures { λ k. ⌜ FirstWord set k ⌝ }
+fn first_word(set: &[u64; 4]) -> usize
+    ensures { λ k. ⌜ FirstWord (now (set .entry)) k ⌝ }
 {
     if set[0] != 0 {
         return 0;
@@ -45,34 +36,28 @@ fn first_word(set: [u64; 4]) -> usize
     4
 }
 
-// The lowest member of word k, which is d.
-fn pick_in(set: [u64; 4], k: usize, d: u64) -> Choice
-    requires { ⌜ length set ≡ 4 ⌝ }
-    requires { ⌜ (k < 4) × (0 < d) × (getD set k 0 ≡ d) ⌝ }
-    ensures { λ p. ⌜ Picked set (p .member) (p .rest) ⌝ }
+// Takes the lowest member out of word k, which is d.
+fn pick_in(set: &mut [u64; 4], k: usize, d: u64) -> usize
+    requires { ⌜ length (now set) ≡ 4 ⌝ }
+    requires { ⌜ (k < 4) × (0 < d) × (getD (now set) k 0 ≡ d) ⌝ }
+    ensures { λ r. ⌜ Picked (now (set .entry)) r (now (set .exit)) ⌝ }
 {
-    let mut rest = set;
-    rest[k] = d & (d - 1);
+    set[k] = d & (d - 1);
     let j = u64::trailing_zeros(d) as usize;
-    Choice {
-        member: k * 64 + j,
-        rest,
-    }
+    k * 64 + j
 }
 
-// The lowest member.
-pub fn pick(set: [u64; 4]) -> Choice
-    requires { ⌜ length set ≡ 4 ⌝ }
-    ensures { λ p. ⌜ Picked set (p .member) (p .rest) ⌝ }
+// Takes the lowest member out of the set; 256 where it has none.
+pub fn pick(set: &mut [u64; 4]) -> usize
+    requires { ⌜ length (now set) ≡ 4 ⌝ }
+    ensures { λ r. ⌜ Picked (now (set .entry)) r (now (set .exit)) ⌝ }
 {
     let k = first_word(set);
     if k == 4 {
-        return Choice {
-            member: 256,
-            rest: set,
-        };
+        return 256;
     }
-    pick_in(set, k, set[k])
+    let d = set[k];
+    pick_in(set, k, d)
 }
 
 // The set with the members of set number s.

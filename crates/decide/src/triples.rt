@@ -1,12 +1,12 @@
-// A round of the triples: what is run after the steps of a rule is gathered by class, and once for each class goes through its steps.
+// A round of the triples: what is run after the steps of a rule is gathered by class, and goes once through the steps of each class that has more.
 ghost use mathlib.Core.Path.{_≡_};
 ghost use Prim.Native.Nat.{ℕ, _+_, _%_, _<_, _≤_};
 ghost use lib.ListN.{length, getD, set};
 ghost use Rattle.decide.specs.Stamp.{of-triples, alone};
-ghost use Rattle.decide.specs.Gather.{restOf, added, addedBy, Covers, Gains, Empty};
-ghost use Rattle.decide.specs.Take.{Took, Room, Fits, symbolAt, givenBy, AllFit, Settles, SettlesAll};
+ghost use Rattle.decide.specs.Gather.{restOf, added, addedBy, Visits, Gains};
+ghost use Rattle.decide.specs.Take.{Took, Room, Fits, symbolAt, givenBy, fromClass, fromClasses, AllFit};
+use crate::sets::add;
 use crate::sets::pick;
-use crate::sets::with;
 use crate::stamps::stamp;
 use table::Size;
 
@@ -45,17 +45,12 @@ fn rest(kind: u8, over: usize, under: usize, e: &[u64; 32]) -> u64
     bits::product(first, e[under])
 }
 
-// Rule i adds what is run after its step to the matrix of its class, which is noted in the set.
-fn visit(
-    i: usize,
-    rules: &[u8; 1024],
-    e: &[u64; 32],
-    by: &mut [u64; 256],
-    touched: [u64; 4],
-) -> [u64; 4]
+// Rule i adds what is run after its step to the matrix of its class. A class that has more by it is noted in the set.
+fn visit(i: usize, rules: &[u8; 1024], e: &[u64; 32], by: &mut [u64; 256], touched: &mut [u64; 4])
     requires { ⌜ i < 256 ⌝ }
-    requires { ⌜ Covers touched (now by) ⌝ }
-    ensures { λ t. ⌜ Gains (added (now (rules .entry)) (now (e .entry)) i) (now (by .entry)) t (now (by .exit)) ⌝ }
+    requires { ⌜ length (now touched) ≡ 4 ⌝ }
+    requires { ⌜ length (now by) ≡ 256 ⌝ }
+    ensures { λ _. ⌜ Visits (added (now (rules .entry)) (now (e .entry)) i) (now (touched .entry)) (now (by .entry)) (now (touched .exit)) (now (by .exit)) ⌝ }
 {
     let m = rest(
         rules[4 * i],
@@ -63,31 +58,30 @@ fn visit(
         low(rules[4 * i + 3]),
         e,
     );
-    if m == 0 {
-        return touched;
-    }
     let c = wide(rules[4 * i + 1]);
-    by[c] = by[c] | m;
-    with(touched, c)
+    let old = by[c];
+    let all = old | m;
+    if all == old {
+        return;
+    }
+    by[c] = all;
+    add(touched, c);
 }
 
-// The rules of a set. Answers the set of the classes that have something.
+// The rules of a set. Answers the set of the classes that have more than before.
 pub fn gather(set: [u64; 4], rules: &[u8; 1024], e: &[u64; 32], by: &mut [u64; 256]) -> [u64; 4]
     requires { ⌜ length set ≡ 4 ⌝ }
-    requires { ⌜ Empty 256 (now by) ⌝ }
+    requires { ⌜ length (now by) ≡ 256 ⌝ }
     ensures { λ t. ⌜ Gains (addedBy (now (rules .entry)) (now (e .entry)) set) (now (by .entry)) t (now (by .exit)) ⌝ }
 {
     let mut left = set;
     let mut touched = [0u64; 4];
     loop {
-        let p = pick(left);
-        let i = p.member;
+        let i = pick(&mut left);
         if 256 <= i {
             return touched;
         }
-        let t = visit(i, rules, e, by, touched);
-        touched = t;
-        left = p.rest;
+        visit(i, rules, e, by, &mut touched);
     }
 }
 
@@ -107,24 +101,23 @@ fn take(size: Size, g: usize, m: u64, k: u16, e: &mut [u64; 32], triples: &mut [
     1u64 << (g as u64)
 }
 
-// The symbol of class c takes in what the round gives the class, whose matrix is then empty again.
+// The symbol of class c takes in what is run after the steps of the class, through its steps.
 fn settle(
     size: Size,
     c: usize,
     k: u16,
     sy: &[u8; 256],
     tg: &[u64; 256],
-    by: &mut [u64; 256],
+    by: &[u64; 256],
     e: &mut [u64; 32],
     triples: &mut [u16],
 ) -> u64
     requires { ⌜ c < 256 ⌝ }
     requires { ⌜ Room of-triples size (now e) (now triples) ⌝ }
     requires { ⌜ Fits of-triples size (symbolAt (now sy) c) (givenBy (now tg) (now by) c) ⌝ }
-    ensures { λ w. ⌜ Settles size k c (now (sy .entry)) (now (tg .entry)) (now (by .entry)) (now (e .entry)) (now (triples .entry)) w (now (by .exit)) (now (e .exit)) (now (triples .exit)) ⌝ }
+    ensures { λ w. ⌜ Took of-triples size k (fromClass (now (sy .entry)) (now (tg .entry)) (now (by .entry)) c) (now (e .entry)) (now (triples .entry)) w (now (e .exit)) (now (triples .exit)) ⌝ }
 {
     let m = bits::product(tg[c], by[c]);
-    by[c] = 0;
     take(size, low(sy[c]), m, k, e, triples)
 }
 
@@ -135,24 +128,22 @@ pub fn settle_all(
     k: u16,
     sy: &[u8; 256],
     tg: &[u64; 256],
-    by: &mut [u64; 256],
+    by: &[u64; 256],
     e: &mut [u64; 32],
     triples: &mut [u16],
 ) -> u64
-    requires { ⌜ Covers touched (now by) ⌝ }
+    requires { ⌜ length touched ≡ 4 ⌝ }
     requires { ⌜ Room of-triples size (now e) (now triples) ⌝ }
     requires { ⌜ AllFit size (now sy) (now tg) (now by) ⌝ }
-    ensures { λ w. ⌜ SettlesAll size k touched (now (sy .entry)) (now (tg .entry)) (now (by .entry)) (now (e .entry)) (now (triples .entry)) w (now (by .exit)) (now (e .exit)) (now (triples .exit)) ⌝ }
+    ensures { λ w. ⌜ Took of-triples size k (fromClasses (now (sy .entry)) (now (tg .entry)) (now (by .entry)) touched) (now (e .entry)) (now (triples .entry)) w (now (e .exit)) (now (triples .exit)) ⌝ }
 {
     let mut left = touched;
     let mut changed: u64 = 0;
     loop {
-        let p = pick(left);
-        let c = p.member;
+        let c = pick(&mut left);
         if 256 <= c {
             return changed;
         }
         changed = changed | settle(size, c, k, sy, tg, by, e, triples);
-        left = p.rest;
     }
 }

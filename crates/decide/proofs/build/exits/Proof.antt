@@ -19,11 +19,11 @@ abbrev μ-loop : tie.MeasureT-loop
 loop-holds : tie.Need-loop-holds Inv-loop μ-loop
 loop-holds c = (omega arith, exits-none _)
 
--- src/build.rt:80:13
+-- src/build.rt:80:9
 put-exit-requires : tie.Need-put-exit-requires Inv-loop μ-loop
-put-exit-requires c κs = (omega (arith, c .before .before .pre), c .before .loop .inv .1 .long)
+put-exit-requires c κs = (omega (arith, c .before .before .before .pre), c .before .before .loop .inv .1 .long)
 
--- src/build.rt:82:9
+-- src/build.rt:81:9
 add-r : tie.Need-add-r Inv-loop μ-loop
 add-r c = search needs
 
@@ -33,7 +33,7 @@ loop-less c = search needs
 
 -- src/build.rt:79:5
 loop-again : tie.Need-loop-again Inv-loop μ-loop
-loop-again c = (omega arith, exits-more _ (c .before .before .loop .r) (c .before .before .loop .inv .1) (c .put-exit .ensures))
+loop-again c = (omega arith, exits-more _ (c .before .before .before .loop .r) (c .before .before .before .loop .inv .1) (c .put-exit .ensures))
 
 -- src/build.rt:73:1
 returns : tie.Need-returns Inv-loop μ-loop

@@ -21,23 +21,23 @@ loop-holds c = left-first (c .pre .0) (c .pre .1)
 
 -- src/heads.rt:85:13
 pick-requires : tie.Need-pick-requires Inv-loop μ-loop
-pick-requires c κs = c .loop .inv .long
+pick-requires c κs = c .before .loop .inv .long
 
--- src/heads.rt:88:13
+-- src/heads.rt:87:13
 returns : tie.Need-returns Inv-loop μ-loop
-returns c = left-last (omega arith) (c .before .pick .ensures) (c .before .before .loop .inv)
+returns c = left-last (omega arith) (c .before .pick .ensures) (c .before .before .before .loop .inv)
 
--- src/heads.rt:90:29
+-- src/heads.rt:89:29
 show-requires : tie.Need-show-requires Inv-loop μ-loop
-show-requires c κs = (omega arith, c .before .before .before .loop .inv .covers .long)
+show-requires c κs = (omega arith, c .before .before .before .before .loop .inv .covers .long)
 
 -- src/heads.rt:84:5
 loop-less : tie.Need-loop-less Inv-loop μ-loop
-loop-less c = c .before .before .before .before .pick .ensures .less (omega arith)
+loop-less c = c .before .before .before .pick .ensures .less (omega arith)
 
 -- src/heads.rt:84:5
 loop-again : tie.Need-loop-again Inv-loop μ-loop
-loop-again c = left-next (omega arith) (c .before .before .before .before .pick .ensures) (c .before .before .before .before .before .loop .inv) (c .before .show .ensures)
+loop-again c = left-next (omega arith) (c .before .before .before .pick .ensures) (c .before .before .before .before .before .loop .inv) (c .show .ensures)
 
 pub show-all-spec : {M : Type 1} → statement M
 show-all-spec =

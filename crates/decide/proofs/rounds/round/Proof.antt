@@ -10,33 +10,33 @@ use Rattle.decide.proofs.heads.show_all.Reads as show-all-reads
 use Rattle.decide.proofs.triples.gather.Reads as gather-reads
 use Rattle.decide.proofs.triples.settle_all.Reads as settle-all-reads
 
--- src/rounds.rt:36:9
+-- src/rounds.rt:44:9
 gather-requires : tie.Need-gather-requires
-gather-requires c κs = (c .before .before .before .before .pre .0 .3 .sets .triples-long, c .before .before .before .before .pre .1 .classes)
+gather-requires c κs = (c .before .before .before .before .pre .0 .3 .sets .triples-long, c .before .before .before .before .pre .0 .3 .stored .long)
 
--- src/rounds.rt:37:9
+-- src/rounds.rt:45:9
 show-all-requires : tie.Need-show-all-requires
-show-all-requires c κs = (c .before .before .before .before .before .before .before .before .pre .0 .3 .sets .heads-long, c .before .before .before .before .before .before .before .before .pre .1 .symbols)
+show-all-requires c κs = (c .before .before .before .before .before .before .before .before .pre .0 .3 .sets .heads-long, c .before .before .before .before .before .before .before .before .pre .1)
 
--- src/rounds.rt:38:9
+-- src/rounds.rt:46:9
 settle-all-requires : tie.Need-settle-all-requires
-settle-all-requires c κs = (c .before .before .before .before .before .before .before .gather .ensures .covers, (c .before .before .before .before .before .before .before .before .before .before .before .before .pre .0 .3 .standing .triples-room, ready-fit _ _ _ _ _ _ _ _ _ _ _ (c .before .before .before .before .before .before .before .before .before .before .before .before .pre .1 .classes) (c .before .before .before .before .before .before .before .gather .ensures) (c .before .before .before .before .before .before .before .before .before .before .before .before .pre .0)))
+settle-all-requires c κs = (c .before .before .before .before .before .before .before .gather .ensures .few, (c .before .before .before .before .before .before .before .before .before .before .before .before .pre .0 .3 .standing .triples-room, ready-fit _ _ _ _ _ _ _ _ _ _ _ _ (c .before .before .before .before .before .before .before .gather .ensures) (c .before .before .before .before .before .before .before .before .before .before .before .before .pre .0)))
 
--- src/rounds.rt:39:9
+-- src/rounds.rt:47:9
 settle-heads-requires : tie.Need-settle-heads-requires
-settle-heads-requires c κs = (c .before .before .before .before .before .before .before .before .before .show-all .ensures .covers, (c .before .before .before .before .before .before .before .before .before .before .before .before .before .before .before .before .before .before .pre .0 .3 .standing .heads-room, ready-rows _ _ _ _ _ _ _ _ _ _ _ (c .before .before .before .before .before .before .before .before .before .show-all .ensures) (c .before .before .before .before .before .before .before .before .before .before .before .before .before .before .before .before .before .before .pre .0)))
+settle-heads-requires c κs = (c .before .before .before .before .before .before .before .before .before .show-all .ensures .covers, (c .before .before .before .before .before .before .before .before .before .before .before .before .before .before .before .before .before .before .pre .0 .3 .standing .heads-room, ready-rows _ _ _ _ _ _ _ _ _ _ _ _ (c .before .before .before .before .before .before .before .before .before .show-all .ensures) (c .before .before .before .before .before .before .before .before .before .before .before .before .before .before .before .before .before .before .pre .0)))
 
--- src/rounds.rt:17:1
+-- src/rounds.rt:25:1
 same-length : tie.Need-same-length
 same-length c = c .before .before .settle-heads .ensures .took .table .as-long
 
--- src/rounds.rt:17:1
+-- src/rounds.rt:25:1
 same-length-2 : tie.Need-same-length-2
-same-length-2 c = c .before .before .before .before .before .before .before .before .settle-all .ensures .took .table .as-long
+same-length-2 c = c .before .before .before .before .before .before .before .before .settle-all .ensures .table .as-long
 
--- src/rounds.rt:17:1
+-- src/rounds.rt:25:1
 returns : tie.Need-returns
-returns c = round-done _ _ _ _ _ _ _ _ _ _ _ (c .before .before .before .before .before .before .before .before .before .before .before .before .before .before .before .before .before .before .before .before .before .pre .1 .classes) (c .before .before .before .before .before .before .before .before .before .before .before .before .before .before .before .before .gather .ensures) (c .before .before .before .before .before .before .before .before .before .before .before .before .show-all .ensures) (c .before .before .before .before .before .before .before .before .settle-all .ensures) (c .before .before .settle-heads .ensures)
+returns c = round-done _ _ _ _ _ _ _ _ _ _ _ _ (c .before .before .before .before .before .before .before .before .before .before .before .before .before .before .before .before .gather .ensures) (c .before .before .before .before .before .before .before .before .before .before .before .before .show-all .ensures) (c .before .before .before .before .before .before .before .before .settle-all .ensures) (c .before .before .settle-heads .ensures)
 
 pub round-spec : {M : Type 1} → statement M
 round-spec =

@@ -1,8 +1,8 @@
 use lib.ListN.{length}
 use Prim.Native.Nat.{_≤_, _-_}
 use mathlib.Core.Path.{_≡_, refl, _∙_}
-use Rattle.decide.specs.Standing.{Scratch}
-use Rattle.decide.proofs.Emptied.{scratch-first}
+use Rattle.decide.specs.Gather.{Empty}
+use Rattle.decide.proofs.Emptied.{empty-first}
 use Rattle.decide.proofs.Going.{Going, going-first, small-state, small-symbol, changed-low, violates, is-safe, is-spent, room, turns, next}
 use borrow.Author.Needs.{needs}
 use native.Mathlib.Omega.{arith}
@@ -15,8 +15,8 @@ use Rattle.decide.proofs.rounds.turn.Reads as turn-reads
 
 abbrev Inv-loop : tie.InvT-loop
 Inv-loop size fins q g rules sy tg us e₀ hd₀ heads₀ triples₀ budget by₀ nh₀ n₀ more₀ changed₀ wt₀ wh₀ e hd heads triples by nh n more changed wt wh =
-    (n ≤ 2304) × (length heads ≡ length heads₀) × (length triples ≡ length triples₀) × Scratch by nh
-    × Going size fins q g wt₀ wh₀ rules sy tg us e₀ hd₀ heads₀ triples₀ budget n more changed wt wh e hd heads triples
+    (n ≤ 2304) × (length heads ≡ length heads₀) × (length triples ≡ length triples₀) × Empty 32 nh
+    × Going size fins q g wt₀ wh₀ rules sy tg us e₀ hd₀ heads₀ triples₀ budget n more changed wt wh by e hd heads triples
 
 abbrev μ-loop : tie.MeasureT-loop
 μ-loop size fins q g rules sy tg us e₀ hd₀ heads₀ triples₀ budget by₀ nh₀ n₀ more₀ changed₀ wt₀ wh₀ e hd heads triples by nh n more changed wt wh =
@@ -28,11 +28,11 @@ shl-changed c = omega (arith, small-symbol _ _ _ _ _ _ _ _ _ _ _ _ _ _ 0 (c .bef
 
 -- src/rounds.rt:141:5
 loop-holds : tie.Need-loop-holds Inv-loop μ-loop
-loop-holds c = (omega arith, refl, refl, scratch-first, going-first _ _ _ _ _ _ _ _ _ _ _ _ _ _ _ (c .before .before .pre))
+loop-holds c = (omega arith, refl, refl, empty-first, going-first _ _ _ _ _ _ _ _ _ _ _ _ _ _ _ (c .before .before .pre))
 
 -- src/rounds.rt:142:12
 look-requires : tie.Need-look-requires Inv-loop μ-loop
-look-requires c κs = let r = c .before .before .before .before .before .pre in (small-state _ _ _ _ _ _ _ _ _ _ _ _ _ _ 0 r, (small-symbol _ _ _ _ _ _ _ _ _ _ _ _ _ _ 0 r, changed-low _ _ _ _ _ _ _ _ _ _ _ _ _ _ _ _ _ _ _ _ _ _ _ _ (c .before .before .loop .inv .4) r))
+look-requires c κs = let r = c .before .before .before .before .before .pre in (small-state _ _ _ _ _ _ _ _ _ _ _ _ _ _ 0 r, (small-symbol _ _ _ _ _ _ _ _ _ _ _ _ _ _ 0 r, changed-low _ _ _ _ _ _ _ _ _ _ _ _ _ _ _ _ _ _ _ _ _ _ _ _ _ (c .before .before .loop .inv .4) r))
 
 -- src/rounds.rt:143:13
 same-length : tie.Need-same-length Inv-loop μ-loop
@@ -44,7 +44,7 @@ same-length-2 c = search needs
 
 -- src/rounds.rt:143:13
 returns : tie.Need-returns Inv-loop μ-loop
-returns c = violates _ _ _ _ _ _ _ _ _ _ _ _ _ _ _ _ _ _ _ _ _ _ _ _ (c .before .before .before .before .loop .inv .4) _ (c .before .look .ensures) (c .if1 .taken)
+returns c = violates _ _ _ _ _ _ _ _ _ _ _ _ _ _ _ _ _ _ _ _ _ _ _ _ _ (c .before .before .before .before .loop .inv .4) _ (c .before .look .ensures) (c .if1 .taken)
 
 -- src/rounds.rt:146:13
 same-length-3 : tie.Need-same-length-3 Inv-loop μ-loop
@@ -56,7 +56,7 @@ same-length-4 c = search needs
 
 -- src/rounds.rt:146:13
 returns-2 : tie.Need-returns-2 Inv-loop μ-loop
-returns-2 c = is-safe _ _ _ _ _ _ _ _ _ _ _ _ _ _ _ _ _ _ _ _ _ _ _ _ (c .before .before .before .before .before .loop .inv .4) _ (c .before .before .look .ensures) (c .before .if1 .left) (c .if2 .taken)
+returns-2 c = is-safe _ _ _ _ _ _ _ _ _ _ _ _ _ _ _ _ _ _ _ _ _ _ _ _ _ (c .before .before .before .before .before .loop .inv .4) _ (c .before .before .look .ensures) (c .before .if1 .left) (c .if2 .taken)
 
 -- src/rounds.rt:148:22
 cast-if3 : tie.Need-cast-if3 Inv-loop μ-loop
@@ -72,7 +72,7 @@ same-length-6 c = search needs
 
 -- src/rounds.rt:149:13
 returns-3 : tie.Need-returns-3 Inv-loop μ-loop
-returns-3 c = is-spent _ _ _ _ _ _ _ _ _ _ _ _ _ _ _ _ _ _ _ _ _ _ _ _ (c .before .before .before .before .before .before .loop .inv .4) _ (c .before .before .before .look .ensures) (c .before .before .if1 .left) (c .before .if2 .left) (c .if3 .taken)
+returns-3 c = is-spent _ _ _ _ _ _ _ _ _ _ _ _ _ _ _ _ _ _ _ _ _ _ _ _ _ (c .before .before .before .before .before .before .loop .inv .4) _ (c .before .before .before .look .ensures) (c .before .before .if1 .left) (c .before .if2 .left) (c .if3 .taken)
 
 -- src/rounds.rt:151:9
 add-n : tie.Need-add-n Inv-loop μ-loop
@@ -80,7 +80,7 @@ add-n c = search needs
 
 -- src/rounds.rt:152:13
 turn-requires : tie.Need-turn-requires Inv-loop μ-loop
-turn-requires c κs = (turns _ _ _ _ _ _ _ _ _ _ _ _ _ _ _ _ _ _ _ _ _ _ _ _ (c .before .before .before .before .before .before .before .before .before .before .before .before .loop .inv .4) _ (c .before .before .before .before .before .before .before .before .before .look .ensures) (c .before .before .before .before .before .before .before .before .if1 .left) (c .before .before .before .before .before .before .before .if2 .left) (c .before .before .before .before .before .before .before .before .before .before .before .before .before .before .before .pre), c .before .before .before .before .before .before .before .before .before .before .before .before .loop .inv .3)
+turn-requires c κs = (turns _ _ _ _ _ _ _ _ _ _ _ _ _ _ _ _ _ _ _ _ _ _ _ _ _ (c .before .before .before .before .before .before .before .before .before .before .before .before .loop .inv .4) _ (c .before .before .before .before .before .before .before .before .before .look .ensures) (c .before .before .before .before .before .before .before .before .if1 .left) (c .before .before .before .before .before .before .before .if2 .left) (c .before .before .before .before .before .before .before .before .before .before .before .before .before .before .before .pre), c .before .before .before .before .before .before .before .before .before .before .before .before .loop .inv .3)
 
 -- src/rounds.rt:141:5
 loop-less : tie.Need-loop-less Inv-loop μ-loop
@@ -90,11 +90,11 @@ loop-less c = search needs
 loop-again : tie.Need-loop-again Inv-loop μ-loop
 loop-again c =
     let g = c .before .before .before .before .before .before .before .before .before .before .before .before .before .before .before .before .before .before .before .loop .inv in (
-      omega (arith, room _ _ _ _ _ _ _ _ _ _ _ _ _ _ _ _ _ _ _ _ _ _ _ _ (g .4) _ (c .before .before .before .before .before .before .before .before .before .before .before .before .before .before .before .before .look .ensures) (c .before .before .before .before .before .before .before .before .before .before .before .before .before .before .before .if1 .left) (c .before .before .before .before .before .before .before .before .before .before .before .before .before .before .if2 .left) (c .before .before .before .before .before .before .before .before .before .before .before .before .before .before .before .before .before .before .before .before .before .before .pre)),
+      omega (arith, room _ _ _ _ _ _ _ _ _ _ _ _ _ _ _ _ _ _ _ _ _ _ _ _ _ (g .4) _ (c .before .before .before .before .before .before .before .before .before .before .before .before .before .before .before .before .look .ensures) (c .before .before .before .before .before .before .before .before .before .before .before .before .before .before .before .if1 .left) (c .before .before .before .before .before .before .before .before .before .before .before .before .before .before .if2 .left) (c .before .before .before .before .before .before .before .before .before .before .before .before .before .before .before .before .before .before .before .before .before .before .pre)),
       c .before .before .before .before .before .before .turn .ensures .heads-long ∙ g .1,
       c .before .before .before .before .before .before .turn .ensures .triples-long ∙ g .2,
-      c .before .before .before .before .before .before .turn .ensures .scratch,
-      next _ _ _ _ _ _ _ _ _ _ _ _ _ _ _ _ _ _ _ _ _ _ _ _ (g .4) _ (c .before .before .before .before .before .before .before .before .before .before .before .before .before .before .before .before .look .ensures) (c .before .before .before .before .before .before .before .before .before .before .before .before .before .before .before .if1 .left) (c .before .before .before .before .before .before .before .before .before .before .before .before .before .before .if2 .left) (c .before .before .before .before .before .before .before .before .before .before .before .before .before .if3 .left) (c .before .before .before .before .before .before .turn .ensures),
+      c .before .before .before .before .before .before .turn .ensures .empty,
+      next _ _ _ _ _ _ _ _ _ _ _ _ _ _ _ _ _ _ _ _ _ _ _ _ _ (g .4) _ (c .before .before .before .before .before .before .before .before .before .before .before .before .before .before .before .before .look .ensures) (c .before .before .before .before .before .before .before .before .before .before .before .before .before .before .before .if1 .left) (c .before .before .before .before .before .before .before .before .before .before .before .before .before .before .if2 .left) (c .before .before .before .before .before .before .before .before .before .before .before .before .before .if3 .left) (c .before .before .before .before .before .before .turn .ensures),
     )
 
 pub run-spec : {M : Type 1} → statement M

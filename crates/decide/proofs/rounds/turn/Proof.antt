@@ -15,15 +15,15 @@ round-requires c κs = let r = c .before .before .before .before .before .before
 
 -- src/rounds.rt:85:9
 collect-requires : tie.Need-collect-requires
-collect-requires c κs = (omega arith, (low-t _ _ _ _ _ _ _ (c .before .before .before .before .before .before .before .before .before .before .before .before .before .args .us .now) _ _ _ _ (c .before .before .before .before .round .ensures) (c .before .before .before .before .before .before .before .before .before .before .before .before .before .pre .0), refl))
+collect-requires c κs = (omega arith, (low-t _ _ _ _ _ _ _ (c .before .before .before .before .before .before .before .before .before .before .before .before .before .args .us .now) _ _ _ _ _ (c .before .before .before .before .round .ensures) (c .before .before .before .before .before .before .before .before .before .before .before .before .before .pre .0), refl))
 
 -- src/rounds.rt:86:9
 collect-requires-2 : tie.Need-collect-requires-2
-collect-requires-2 c κs = (omega arith, (low-t _ _ _ _ _ _ _ (c .before .before .before .before .before .before .before .before .before .before .before .before .before .before .args .us .now) _ _ _ _ (c .before .before .before .before .before .round .ensures) (c .before .before .before .before .before .before .before .before .before .before .before .before .before .before .pre .0), refl))
+collect-requires-2 c κs = (omega arith, (low-t _ _ _ _ _ _ _ (c .before .before .before .before .before .before .before .before .before .before .before .before .before .before .args .us .now) _ _ _ _ _ (c .before .before .before .before .before .round .ensures) (c .before .before .before .before .before .before .before .before .before .before .before .before .before .before .pre .0), refl))
 
 -- src/rounds.rt:87:9
 collect-requires-3 : tie.Need-collect-requires-3
-collect-requires-3 c κs = (omega arith, (low-h _ _ _ _ _ _ _ (c .before .before .before .before .before .before .before .before .before .before .before .before .before .before .before .args .us .now) _ _ _ _ (c .before .before .before .before .before .before .round .ensures) (c .before .before .before .before .before .before .before .before .before .before .before .before .before .before .before .pre .0), c .collect2 .ensures .long))
+collect-requires-3 c κs = (omega arith, (low-h _ _ _ _ _ _ _ (c .before .before .before .before .before .before .before .before .before .before .before .before .before .before .before .args .us .now) _ _ _ _ _ (c .before .before .before .before .before .before .round .ensures) (c .before .before .before .before .before .before .before .before .before .before .before .before .before .before .before .pre .0), c .collect2 .ensures .long))
 
 -- src/rounds.rt:62:1
 same-length : tie.Need-same-length
@@ -35,7 +35,7 @@ same-length-2 c = c .before .before .before .before .before .before .before .rou
 
 -- src/rounds.rt:62:1
 returns : tie.Need-returns
-returns c = turn-done _ _ _ _ _ _ _ (c .before .before .before .before .before .before .before .before .before .before .before .before .before .before .before .before .args .us .now) _ _ _ _ (c .before .before .before .before .before .before .before .round .ensures) (c .before .before .collect .ensures) (c .before .collect2 .ensures) (c .collect3 .ensures)
+returns c = turn-done _ _ _ _ _ _ _ (c .before .before .before .before .before .before .before .before .before .before .before .before .before .before .before .before .args .us .now) _ _ _ _ _ (c .before .before .before .before .before .before .before .round .ensures) (c .before .before .collect .ensures) (c .before .collect2 .ensures) (c .collect3 .ensures)
 
 pub turn-spec : {M : Type 1} → statement M
 turn-spec =

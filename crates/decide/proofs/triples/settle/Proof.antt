@@ -30,23 +30,15 @@ element-copy-out-product-2 c = search needs
 product-requires : tie.Need-product-requires
 product-requires c κs = search needs
 
--- src/triples.rt:132:5
-mul-by : tie.Need-mul-by
-mul-by c = search needs
-
--- src/triples.rt:132:5
-element-write-by : tie.Need-element-write-by
-element-write-by c = search needs
-
--- src/triples.rt:133:20
+-- src/triples.rt:132:20
 element-copy-out-low : tie.Need-element-copy-out-low
 element-copy-out-low c = search needs
 
--- src/triples.rt:133:16
+-- src/triples.rt:132:16
 low-requires : tie.Need-low-requires
 low-requires c κs = search needs
 
--- src/triples.rt:133:5
+-- src/triples.rt:132:5
 take-requires : tie.Need-take-requires
 take-requires c κs = (c .before .before .before .before .before .before .before .before .pre .1 .0, settle-in _ 0 _ (c .before .before .before .before .before .before .before .before .args .sy .now) _ _ [] [] (c .before .before .low .ensures .0) (c .before .before .before .before .product .ensures) (c .before .before .before .before .before .before .before .before .pre .1 .1))
 
@@ -67,8 +59,6 @@ settle-spec =
     mul-product-2
     element-copy-out-product-2
     product-requires
-    mul-by
-    element-write-by
     element-copy-out-low
     low-requires
     take-requires
