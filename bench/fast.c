@@ -1,7 +1,7 @@
 /* The same answers in plain C by matrices, for the benchmark's second ratio: what pdcheck prints, and with a listing behind the model and
    the argument 'r' what pdrecheck prints. Written for speed, with no proof in mind; like plain.c it trusts its input and uses no headers.
    The triples of a symbol are one 64-bit number, row q at byte q; its heads are a byte; the moves that fit it are one matrix. A round
-   redoes only the symbols that changed. A fact is explained once. A table is checked by inclusion of matrices. */
+   redoes only the rules that use a symbol with new facts. A fact is explained once. A table is checked by inclusion of matrices. */
 typedef unsigned char u8;
 typedef unsigned short u16;
 typedef unsigned int u32;
@@ -93,13 +93,14 @@ static void read_listing(u8 *at) { /* into matrices; ranks are passed over */
 }
 
 /* ---- deciding */
-static u16 first[33]; /* the rules of g but its exits: from first[g] to first[g + 1] in over and under */
-static u8 over[256], under[256];
-static u32 exits, users[32], callers[32]; /* the symbols with an exit; those whose rules use g's triples; those that call g */
-static u64 rests[32]; /* what the rules of g leave to be erased after their step */
-static u64 more_erases[32]; /* what this round adds */
-static u8 more_heads[32];
-static u32 touched_heads, touched_erases, changed_heads, changed_erases; /* symbols: with facts that this round adds, or the last did */
+static u32 exits; /* the symbols with an exit */
+static u16 by_top[32], by_one[32], by_two[32]; /* lists of the other rules by each of their symbols: the first one's number and 1; 0 at the end */
+static u16 next_top[256], next_one[256], next_two[256];
+static u64 rests[32], more_rests[32]; /* what the rules of g leave to be erased after their step, joined; what this round adds to it */
+static u64 more_erases[32];
+static u8 landed[32], more_heads[32]; /* the states after a step from the heads of g */
+static u32 touched_rests, touched_erases, touched_heads; /* the symbols to which this round adds */
+static u32 changed_erases, changed_heads; /* those to which the last round added */
 static int violating;
 
 static void fit_moves(void) {
@@ -108,20 +109,14 @@ static void fit_moves(void) {
     for (int g = 0; g < G; g++) for (u32 s = shows[g]; s; s &= s - 1) fits[g] |= on[lowest(s)];
 }
 
-static void sort_rules(void) {
-    u16 place[32];
+static void put_rule(int r, u16 *first, u16 *next) { next[r] = *first; *first = r + 1; }
+
+static void list_rules(void) {
     for (int r = 0; r < R; r++) {
-        int g = top[r];
-        if (kind[r] == EXIT) { exits |= 1u << g; continue; }
-        first[g + 1]++;
-        users[one[r]] |= 1u << g;
-        if (kind[r] == CALL) { callers[one[r]] |= 1u << g; users[two[r]] |= 1u << g; }
-    }
-    for (int g = 0; g < 32; g++) { place[g] = first[g]; first[g + 1] += first[g]; }
-    for (int r = 0; r < R; r++) if (kind[r] != EXIT) {
-        int k = place[top[r]]++;
-        over[k] = one[r];
-        under[k] = kind[r] == CALL ? two[r] : NONE;
+        if (kind[r] == EXIT) { exits |= 1u << top[r]; continue; }
+        put_rule(r, by_top + top[r], next_top);
+        put_rule(r, by_one + one[r], next_one);
+        if (kind[r] == CALL) put_rule(r, by_two + two[r], next_two);
     }
 }
 
@@ -135,26 +130,44 @@ static void give_erases(int g, u64 set) {
     if (fresh) { more_erases[g] = fresh; touched_erases |= 1u << g; }
 }
 
-/* What the rules of g give out of the facts held: heads, then triples. Two triples are joined only if one of them is new. */
-static void visit_heads(int g) {
-    u8 set = through(heads[g], fits[g]);
-    if (!set) return;
-    for (int k = first[g]; k < first[g + 1]; k++) {
-        u64 a = erases[over[k]];
-        give_heads(over[k], set);
-        if (under[k] != NONE && a) give_heads(under[k], through(set, a));
+static void give_rest(int g, u64 rest) {
+    u64 fresh = rest & ~rests[g];
+    if (fresh) { more_rests[g] |= fresh; touched_rests |= 1u << g; }
+}
+
+static void erase_two(int r) { if (erases[one[r]] && erases[two[r]]) give_rest(top[r], product(erases[one[r]], erases[two[r]])); }
+static void return_to(int r) { if (landed[top[r]]) give_heads(two[r], through(landed[top[r]], erases[one[r]])); }
+
+/* What the rules give that use x's triples, of which some are new. A call whose two symbols both have new ones is taken once. */
+static void use_erases(int x) {
+    for (int i = by_one[x]; i; i = next_one[i - 1]) {
+        int r = i - 1;
+        if (kind[r] == DIRECT) give_rest(top[r], erases[x]);
+        else { erase_two(r); return_to(r); }
+    }
+    for (int i = by_two[x]; i; i = next_two[i - 1]) if (!(changed_erases >> one[i - 1] & 1)) erase_two(i - 1);
+}
+
+/* What the rules give that use g's heads, of which some are new. */
+static void use_heads(int g) {
+    if (landed[g]) for (int i = by_top[g]; i; i = next_top[i - 1]) {
+        int r = i - 1;
+        give_heads(one[r], landed[g]);
+        if (kind[r] == CALL) return_to(r);
     }
 }
 
-static void visit_erases(int g) {
-    u64 rest = 0;
-    for (int k = first[g]; k < first[g + 1]; k++) {
-        int x = over[k], y = under[k];
-        if (y == NONE) rest |= erases[x];
-        else if ((changed_erases >> x | changed_erases >> y) & 1 && erases[x] && erases[y]) rest |= product(erases[x], erases[y]);
-    }
-    rest &= ~rests[g];
-    if (rest) { rests[g] |= rest; give_erases(g, product(fits[g], rest)); }
+static void settle_rest(int g) {
+    give_erases(g, product(fits[g], more_rests[g]));
+    rests[g] |= more_rests[g];
+    more_rests[g] = 0;
+}
+
+static void round(void) {
+    for (u32 s = changed_erases; s; s &= s - 1) use_erases(lowest(s));
+    for (u32 s = changed_heads; s; s &= s - 1) use_heads(lowest(s));
+    for (u32 s = touched_rests; s; s &= s - 1) settle_rest(lowest(s));
+    touched_rests = 0;
 }
 
 static void keep_heads(int n) {
@@ -163,6 +176,7 @@ static void keep_heads(int n) {
         u8 fresh = more_heads[g];
         more_heads[g] = 0;
         heads[g] |= fresh;
+        landed[g] = through(heads[g], fits[g]);
         if (fresh & final) violating = 1;
         for (; fresh; fresh &= fresh - 1) head[lowest(fresh)][g] = n;
     }
@@ -182,21 +196,14 @@ static void keep_erases(int n) {
     touched_erases = 0;
 }
 
-static void round(void) {
-    u32 for_erases = 0, for_heads = changed_heads;
-    for (u32 s = changed_erases; s; s &= s - 1) { for_erases |= users[lowest(s)]; for_heads |= callers[lowest(s)]; }
-    for (u32 s = for_erases; s; s &= s - 1) visit_erases(lowest(s));
-    for (u32 s = for_heads; s; s &= s - 1) visit_heads(lowest(s));
-}
-
 static void begin(void) {
     __builtin_memset(head, 255, sizeof head);
     __builtin_memset(erase, 255, sizeof erase);
     fit_moves();
-    sort_rules();
+    list_rules();
     give_heads(g0, 1 << q0);
     keep_heads(0);
-    for (u32 s = exits; s; s &= s - 1) give_erases(lowest(s), fits[lowest(s)]); /* kept in round 1 */
+    for (u32 s = exits; s; s &= s - 1) give_erases(lowest(s), fits[lowest(s)]); /* of round 1 */
 }
 
 /* The rounds of the verdict: a violation if `violating`. */
@@ -366,7 +373,6 @@ static u8 *print_safe(u8 *p, int n) {
 
 /* ---- the table check: all rules by matrices, and one by one only if that fails */
 static int table_closed(void) {
-    u8 landed[32];
     for (int g = 0; g < G; g++) landed[g] = through(heads[g], fits[g]);
     for (int r = 0; r < R; r++) {
         int g = top[r];
