@@ -1,5 +1,5 @@
-/* The same answers in plain C by matrices, for the benchmark's second ratio: what pdcheck prints, and with a listing behind the model and
-   the argument 'r' what pdrecheck prints. Written for speed, with no proof in mind; like plain.c it trusts its input and uses no headers.
+/* The same work in plain C by matrices, for the benchmark's second ratio: what pdcheck does on every input, and with the argument 'r' what
+   pdrecheck does, refusals and their lines included. Written for speed, with no proof in mind; like plain.c it uses no headers.
    The triples of a symbol are one 64-bit number, row q at byte q; its heads are a byte; the moves that fit it are one matrix. A round
    redoes only the rules that use a symbol with new facts. A fact is explained once. A table is checked by inclusion of matrices. */
 typedef unsigned char u8;
@@ -9,13 +9,16 @@ typedef unsigned long u64;
 extern long read(int, void *, unsigned long);
 extern long write(int, const void *, unsigned long);
 
-enum { ROOM = 4096, NONE = 255, EXIT = 0, DIRECT = 1, CALL = 2 };
-static u8 text[61441], out[131072];
-static long length;
+enum { MODEL_BYTES = 16384, LISTING_BYTES = 45056, RULES = 256, MOVES = 128, MAX_RANK = 65534, ROOM = 4096, NONE = 255 };
+enum { EXIT, DIRECT, CALL };
+enum { TOO_LONG = 1, MALFORMED, MISPLACED, OUT_OF_RANGE, TOO_MANY }; /* the refusals of a text; 0 is none */
+static u8 text[MODEL_BYTES + LISTING_BYTES + 16], out[131072]; /* behind the text stand some zeros, which belong to no word, number or line */
+static long used;
 
 /* the model */
-static int G, Q, q0, g0, R, M;
-static u8 final, kind[256], top[256], one[256], two[256], from[128], event[128], to[128];
+static int G, Q, E, q0, g0, R, M;
+static int started;
+static u8 final, kind[RULES], top[RULES], one[RULES], two[RULES], from[MOVES], event[MOVES], to[MOVES];
 static u16 shows[32];
 static u64 fits[32];
 /* the facts: as matrices, and with their ranks, 65535 if not held */
@@ -39,57 +42,180 @@ static u8 through(u8 set, u64 b) { /* the rows of the set's states, joined */
     return c | c >> 8;
 }
 
-/* ---- reading: each takes the place to read at, and moves it behind what was read */
-static int number(u8 **at) { int n = 0; while (**at >= '0') n = n * 10 + *(*at)++ - '0'; ++*at; return n; }
-static int digit(u8 **at) { *at += 2; return (*at)[-2] - '0'; }
-static u8 *line(u8 *at) { while (*at != '\n') at++; return at + 1; }
+/* ---- printing */
+static void put(const char *s) { while (*s) out[used++] = *s++; }
+static int digits(u32 n) { return n < 10 ? 1 : n < 100 ? 2 : n < 1000 ? 3 : n < 10000 ? 4 : 5; } /* no number printed has more */
+static void put_number(u32 n) {
+    int k = digits(n);
+    for (int i = k - 1; i >= 0; i--, n /= 10) out[used + i] = '0' + n % 10;
+    used += k;
+}
+static void put_field(u32 n) { put("\t"); put_number(n); }
+static int refuse(int number, int line) { put("refused"); put_field(number); put_field(line); put("\n"); return 0; }
 
-static u8 *read_rule(u8 *at, int k) {
-    kind[R] = k;
-    top[R] = number(&at);
-    if (k > EXIT) one[R] = number(&at);
-    if (k > DIRECT) two[R] = number(&at);
-    R++;
-    return at;
+/* ---- reading: a part moves the place behind itself if it stands there */
+static u8 *at;
+
+static int word(const char *s) { /* with the tab behind it */
+    unsigned long n = __builtin_strlen(s);
+    if (__builtin_memcmp(at, s, n) || at[n] != '\t') return 0;
+    at += n + 1;
+    return 1;
 }
 
-static u8 *read_move(u8 *at) {
-    from[M] = digit(&at);
-    event[M] = number(&at);
-    to[M++] = digit(&at);
-    return at;
+static int is_digit(u8 c) { return c >= '0' && c <= '9'; }
+
+static int number(int *value) { /* one to five digits with no leading zero */
+    u8 *first = at;
+    u32 n = 0;
+    while (is_digit(*at)) n = n * 10 + *at++ - '0';
+    long length = at - first;
+    *value = n;
+    return length == 1 || (length > 1 && length <= 5 && *first != '0');
 }
 
-static u8 *read_event(u8 *at) { int g = number(&at); shows[g] |= 1 << number(&at); return at; }
-static u8 *read_final(u8 *at) { final |= 1 << digit(&at); return at; }
-static u8 *read_start(u8 *at) { q0 = digit(&at); g0 = number(&at); return at; }
-static u8 *read_size(u8 *at) { G = number(&at); Q = digit(&at); for (int g = 0; g < G; g++) shows[g] = 1; return line(at); }
+static int fields(int count, int *value) { /* the rest of a line */
+    for (int i = 0; i < count; i++) if (!number(value + i) || *at++ != (i + 1 < count ? '\t' : '\n')) return 0;
+    return 1;
+}
 
-static u8 *read_model(u8 *at) { /* up to the listing */
-    while (at < text + length) {
-        u8 a = at[0], b = at[1];
-        if (a == 'c') at = read_rule(at + 5, CALL);
-        else if (a == 'd') at = read_rule(at + 7, DIRECT);
-        else if (a == 'm') at = read_move(at + 5);
-        else if (a == 'e' && b == 'x') at = read_rule(at + 5, EXIT);
-        else if (a == 'e') at = read_event(at + 6);
-        else if (a == 'f') at = read_final(at + 6);
-        else if (b == 't') at = read_start(at + 6);
-        else if (b == 'i') at = read_size(at + 5);
-        else break;
+/* ---- the model text: each line's reading gives its refusal */
+static int model_fields(int count, int *value) { return !fields(count, value) ? MALFORMED : !G ? MISPLACED : 0; }
+
+static int read_size(void) {
+    int v[3];
+    if (!fields(3, v)) return MALFORMED;
+    if (G) return MISPLACED;
+    if (v[0] < 1 || v[0] > 32 || v[1] < 1 || v[1] > 8 || v[2] < 1 || v[2] > 16) return OUT_OF_RANGE;
+    G = v[0]; Q = v[1]; E = v[2];
+    for (int g = 0; g < G; g++) shows[g] = 1;
+    return 0;
+}
+
+static int read_start(void) {
+    int v[2], bad = model_fields(2, v);
+    if (bad) return bad;
+    if (started) return MISPLACED;
+    if (v[0] >= Q || v[1] >= G) return OUT_OF_RANGE;
+    q0 = v[0]; g0 = v[1]; started = 1;
+    return 0;
+}
+
+static int read_final(void) {
+    int q, bad = model_fields(1, &q);
+    if (bad) return bad;
+    if (q >= Q) return OUT_OF_RANGE;
+    final |= 1 << q;
+    return 0;
+}
+
+static int read_event(void) {
+    int v[2], bad = model_fields(2, v);
+    if (bad) return bad;
+    if (v[0] >= G || v[1] >= E) return OUT_OF_RANGE;
+    shows[v[0]] |= 1 << v[1];
+    return 0;
+}
+
+static int read_rule(int k) {
+    int v[3] = { 0 }, bad = model_fields(k + 1, v);
+    if (bad) return bad;
+    if (v[0] >= G || v[1] >= G || v[2] >= G) return OUT_OF_RANGE;
+    if (R == RULES) return TOO_MANY;
+    kind[R] = k; top[R] = v[0]; one[R] = v[1]; two[R++] = v[2];
+    return 0;
+}
+
+static int read_move(void) {
+    int v[3], bad = model_fields(3, v);
+    if (bad) return bad;
+    if (v[0] >= Q || v[1] >= E || v[2] >= Q) return OUT_OF_RANGE;
+    if (M == MOVES) return TOO_MANY;
+    from[M] = v[0]; event[M] = v[1]; to[M++] = v[2];
+    return 0;
+}
+
+static int read_model_line(void) {
+    if (word("call")) return read_rule(CALL);
+    if (word("direct")) return read_rule(DIRECT);
+    if (word("exit")) return read_rule(EXIT);
+    if (word("move")) return read_move();
+    if (word("event")) return read_event();
+    if (word("final")) return read_final();
+    if (word("start")) return read_start();
+    if (word("size")) return read_size();
+    return MALFORMED;
+}
+
+static int read_model(u8 *end) { /* whether it is not refused */
+    int bad;
+    if (end - text > MODEL_BYTES) return refuse(TOO_LONG, 0);
+    at = text;
+    for (int line = 1; at < end; line++) if ((bad = read_model_line())) return refuse(bad, line);
+    return started || refuse(MISPLACED, 0);
+}
+
+/* ---- the listing text: into matrices; ranks are tested and passed over */
+static int said_heads, said_erases; /* the counts of its first line */
+
+static u8 *split(u8 *end) { /* the first line that starts with `safe`, or the end */
+    u8 *line = text;
+    while (line < end && __builtin_memcmp(line, "safe", 4)) {
+        while (line < end && *line != '\n') line++;
+        line++;
     }
-    return at;
+    return line < end ? line : end;
 }
 
-static void read_listing(u8 *at) { /* into matrices; ranks are passed over */
-    at = line(at);
-    while (at < text + length) {
-        int is_head = *at == 'h';
-        at += is_head ? 5 : 6;
-        int q = digit(&at), g = number(&at);
-        if (is_head) heads[g] |= 1 << q; else erases[g] |= entry(q, digit(&at));
-        at = line(at);
-    }
+static int read_safe(int line) {
+    int v[3];
+    if (!fields(3, v)) return MALFORMED;
+    if (line > 1) return MISPLACED;
+    if (v[0] > MAX_RANK) return OUT_OF_RANGE;
+    said_heads = v[1]; said_erases = v[2];
+    return 0;
+}
+
+static int read_head(int line) {
+    int v[3];
+    if (!fields(3, v)) return MALFORMED;
+    if (line == 1) return MISPLACED;
+    if (v[0] >= Q || v[1] >= G) return OUT_OF_RANGE;
+    if (heads[v[1]] >> v[0] & 1) return MISPLACED;
+    if (v[2] > MAX_RANK) return OUT_OF_RANGE;
+    heads[v[1]] |= 1 << v[0];
+    return 0;
+}
+
+static int read_erase(int line) {
+    int v[4];
+    if (!fields(4, v)) return MALFORMED;
+    if (line == 1) return MISPLACED;
+    if (v[0] >= Q || v[1] >= G || v[2] >= Q) return OUT_OF_RANGE;
+    u64 fact = entry(v[0], v[2]);
+    if (erases[v[1]] & fact) return MISPLACED;
+    if (v[3] > MAX_RANK) return OUT_OF_RANGE;
+    erases[v[1]] |= fact;
+    return 0;
+}
+
+static int read_listing_line(int line) {
+    if (word("erase")) return read_erase(line);
+    if (word("head")) return read_head(line);
+    if (word("safe")) return read_safe(line);
+    return MALFORMED;
+}
+
+static int count_heads(void) { int n = 0; for (int g = 0; g < G; g++) n += __builtin_popcount(heads[g]); return n; }
+static int count_erases(void) { int n = 0; for (int g = 0; g < G; g++) n += __builtin_popcountl(erases[g]); return n; }
+
+static int read_listing(u8 *listing, u8 *end) { /* whether it is not refused */
+    int bad;
+    if (end - listing > LISTING_BYTES) return refuse(TOO_LONG, 0);
+    at = listing;
+    for (int line = 1; at < end; line++) if ((bad = read_listing_line(line))) return refuse(bad, line);
+    if (listing == end || said_heads != count_heads() || said_erases != count_erases()) return refuse(MISPLACED, 0);
+    return 1;
 }
 
 /* ---- deciding */
@@ -325,50 +451,35 @@ static int trace(void) {
     return unfold_erase(q0, g0, lowest(row(erases[g0], q0) & final));
 }
 
-/* ---- printing: each takes the place to print at, and gives the place behind */
-#define PUT(p, s) (__builtin_memcpy(p, s, sizeof s - 1), (p) + sizeof s - 1)
-static u8 *put_digit(u8 *p, u32 n) { p[0] = '\t'; p[1] = '0' + n; return p + 2; }
-static u8 *put_field(u8 *p, u32 n) { /* of at most four digits */
-    if (n < 10) return put_digit(p, n);
-    u32 tens = n / 10, hundreds = n / 100, thousands = n / 1000;
-    *p++ = '\t';
-    if (n > 999) *p++ = '0' + thousands;
-    if (n > 99) *p++ = '0' + hundreds - 10 * thousands;
-    *p++ = '0' + tens - 10 * hundreds;
-    *p++ = '0' + n - 10 * tens;
-    return p;
-}
+/* ---- the answer of pdcheck */
+static void put_kind(int k) { if (k == CALL) put("\tcall\n"); else if (k == DIRECT) put("\tdirect\n"); else put("\texit\n"); }
 
-static u8 *print_trace(u8 *p, int n) {
+static void print_trace(int n) {
     int whole = trace();
-    p = put_field(PUT(p, "violation"), n);
-    p = whole ? put_field(p, count) : PUT(p, "\tcut");
-    p = PUT(p, "\n");
+    put("violation"); put_field(n);
+    if (whole) put_field(count); else put("\tcut");
+    put("\n");
     for (int i = 0; i < count; i++) {
-        int r = steps[i] >> 7, v = steps[i] & 127;
-        p = put_field(PUT(p, "step"), i + 1);
-        p = put_digit(put_field(put_field(p, r), v), to[v]);
-        p = kind[r] == CALL ? PUT(p, "\tcall\n") : kind[r] == DIRECT ? PUT(p, "\tdirect\n") : PUT(p, "\texit\n");
+        int r = steps[i] / 128, v = steps[i] % 128;
+        put("step"); put_field(i + 1); put_field(r); put_field(v); put_field(to[v]); put_kind(kind[r]);
     }
-    return p;
 }
 
-static u8 *print_safe(u8 *p, int n) {
-    int hs = 0, ts = 0;
-    for (int g = 0; g < G; g++) { hs += __builtin_popcount(heads[g]); ts += __builtin_popcountl(erases[g]); }
-    p = put_field(put_field(put_field(PUT(p, "safe"), n), hs), ts);
-    p = PUT(p, "\n");
+static void print_safe(int n) {
+    put("safe"); put_field(n); put_field(count_heads()); put_field(count_erases()); put("\n");
     for (int q = 0; q < Q; q++) for (int g = 0; g < G; g++) if (heads[g] >> q & 1) {
-        p = put_field(put_digit(PUT(p, "head"), q), g);
-        p = PUT(put_field(p, head[q][g]), "\n");
+        put("head"); put_field(q); put_field(g); put_field(head[q][g]); put("\n");
     }
     for (int q = 0; q < Q; q++) for (int g = 0; g < G; g++) for (u32 s = row(erases[g], q); s; s &= s - 1) {
         int e = lowest(s);
-        p = put_field(put_digit(PUT(p, "erase"), q), g);
-        p = put_field(put_digit(p, e), erase[q][g][e]);
-        p = PUT(p, "\n");
+        put("erase"); put_field(q); put_field(g); put_field(e); put_field(erase[q][g][e]); put("\n");
     }
-    return p;
+}
+
+static void check(u8 *end) {
+    if (!read_model(end)) return;
+    int n = decide();
+    if (violating) print_trace(n); else print_safe(n);
 }
 
 /* ---- the table check: all rules by matrices, and one by one only if that fails */
@@ -399,34 +510,33 @@ static int closed(int r, int v) {
     return !(reached && middles & ~heads[two[r]]) && !(through(middles, erases[two[r]]) & ~ends);
 }
 
-static u8 *print_open(u8 *p) {
-    for (int r = 0; r < R; r++) for (int v = 0; v < M; v++) if (!closed(r, v)) {
-        p = put_field(put_field(PUT(p, "refused\t11\t3"), r), v);
-        return PUT(p, "\n");
-    }
-    return p;
+static void refuse_table(int reason, int r, int v) { put("refused\t11"); put_field(reason); put_field(r); put_field(v); put("\n"); }
+
+static void refuse_first(void) {
+    for (int r = 0; r < R; r++) for (int v = 0; v < M; v++) if (!closed(r, v)) { refuse_table(3, r, v); return; }
 }
 
-static u8 *recheck(u8 *p) {
+static void check_table(void) {
     u8 reached = 0;
     for (int g = 0; g < G; g++) reached |= heads[g];
     fit_moves();
-    if (!(heads[g0] >> q0 & 1)) return PUT(p, "refused\t11\t1\t0\t0\n");
-    if ((reached | row(erases[g0], q0)) & final) return PUT(p, "refused\t11\t2\t0\t0\n");
-    return table_closed() ? PUT(p, "accepted\n") : print_open(p);
+    if (!(heads[g0] >> q0 & 1)) refuse_table(1, 0, 0);
+    else if ((reached | row(erases[g0], q0)) & final) refuse_table(2, 0, 0);
+    else if (!table_closed()) refuse_first();
+    else put("accepted\n");
+}
+
+static void recheck(u8 *end) {
+    u8 *listing = split(end);
+    if (read_model(listing) && read_listing(listing, end)) check_table();
 }
 
 int main(int argc, char **argv) {
     (void)argv;
-    long got;
-    u8 *end, *done = out;
-    while (length < 61441 && (got = read(0, text + length, 61441 - length)) > 0) length += got;
-    u8 *at = read_model(text);
-    if (argc > 1) { read_listing(at); end = recheck(out); }
-    else {
-        int n = decide();
-        end = violating ? print_trace(out, n) : print_safe(out, n);
-    }
-    while (done < end && (got = write(1, done, end - done)) > 0) done += got;
+    int again = argc > 1;
+    long got, length = 0, room = MODEL_BYTES + 1 + (again ? LISTING_BYTES : 0); /* a byte more than the texts may have */
+    while (length < room && (got = read(0, text + length, room - length)) > 0) length += got;
+    if (again) recheck(text + length); else check(text + length);
+    for (long done = 0; done < used && (got = write(1, out + done, used - done)) > 0;) done += got;
     return 0;
 }
