@@ -30,6 +30,8 @@ use Rattle.draft.specs.declared.Draft.{Draft}
 use Rattle.draft.specs.Lines.{takeLine}
 use Rattle.fitting.specs.Fits.{fitOf}
 use Rattle.ranking.specs.Rank.{headFault, tripleFault, Ranked}
+use Rattle.rows.specs.declared.End.{End}
+use Rattle.rows.specs.State.{before, ended}
 use Rattle.rows.specs.Lines.{readText}
 use Rattle.splitter.specs.Part.{listingOf, modelPart}
 use Rattle.print.specs.Bytes.{fieldBytes, lineBytes, namedBytes}
@@ -46,7 +48,7 @@ use Rattle.refusal.specs.Refusal.{refusedBytes, Seeing}
 use Rattle.report.specs.Output.{checkOutput}
 use Rattle.rereport.specs.Output.{recheckOutput}
 
--- one outcome: an answer, or what is left in lent memory
+-- one outcome: an answer, what is left in lent memory, or an answer with what is left
 abbrev pub One : {A : Type 0} → (A → Type 0) → Type 0
 One {A} allows = (r r′ : A) → allows r → allows r′ → r ≡ r′
 
@@ -88,7 +90,7 @@ pub record OneAnswer : Type 0 where
       → Both (λ r after. Ranked cells after (headFault z begun cells q g rank) (putHead (z .symbols) (z .states) cells q g rank) r)
   pub rank-triple : (z : Size) (begun : ℕ) (cells : List ℕ) (q g e rank : ℕ)
       → Both (λ r after. Ranked cells after (tripleFault z begun cells q g e rank) (putTriple (z .symbols) (z .states) cells q g e rank) r)
-  pub read-text : (z : Size) (text : List ℕ) → One (λ r. r ≡ readText z text)
+  pub read-text : (z : Size) (heads triples text : List ℕ) → One {A = End × List ℕ × List ℕ} (λ o. ended (o .0) (o .1) (o .2) ≡ readText z (before heads triples) text)
   -- splitter
   pub listing-of : (text : List ℕ) → One (λ part. part ≡ listingOf text)
   pub model-part : (text : List ℕ) → One (λ part. part ≡ modelPart text)

@@ -59,6 +59,10 @@ module _ {before put : List ℕ} {f g : ℕ} (e : f ≡ g) where
   pub is-ranked : f ≡ 0 → {after : List ℕ} → after ≡ put → Ranked before after g put 0
   is-ranked h k = record { answers = sym h ∙ e; leaves = k ∙ rw (← e, eq-eqb _ _ h) }
 
--- without a refusal the rank stands there
-pub ranked-cells : {before after put : List ℕ} {g r : ℕ} → Ranked before after g put r → r ≡ 0 → after ≡ put
-ranked-cells {before} {after} {put} {g} {r} x h = x .leaves ∙ rw (eq-eqb g 0 (sym (x .answers) ∙ h))
+-- without a refusal the rank stands there, and with one nothing changes
+module _ {before after put : List ℕ} {g r : ℕ} (x : Ranked before after g put r) where
+  pub ranked-cells : r ≡ 0 → after ≡ put
+  ranked-cells h = x .leaves ∙ rw (eq-eqb g 0 (sym (x .answers) ∙ h))
+
+  pub unranked-cells : (r ≡ 0 → ⊥) → after ≡ before
+  unranked-cells h = x .leaves ∙ rw (ne-eqb g 0 (λ e. h (x .answers ∙ e)))

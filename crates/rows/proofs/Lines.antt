@@ -10,19 +10,19 @@ use Rattle.text.proofs.Split.{after, after-shorter, first-piece, later-after, n
 use Rattle.line.specs.Line.{lineOf}
 use Rattle.line.specs.declared.Line.{Line}
 use Rattle.table.specs.declared.Size.{Size}
-use Rattle.rows.specs.declared.State.{State}
-use Rattle.rows.specs.declared.Step.{Step}
-use Rattle.rows.specs.declared.Ended.{Ended}
-use Rattle.rows.specs.Lines.{startState, stepOf, ends, finished, readFrom, readLines, longest, readText, Counted}
-use Rattle.rows.proofs.Steps.{More, step-counts}
+use Rattle.rows.specs.declared.Tally.{Tally}
+use Rattle.rows.specs.declared.Tallied.{Tallied}
+use Rattle.rows.specs.State.{State, Step, Ended, whole, nothing, before, stepped, Counted}
+use Rattle.rows.specs.Lines.{stepOf, ends, finished, readFrom, readLines, longest, readText}
+use Rattle.rows.proofs.Steps.{Fair, step-fair}
 
 -- the loop's invariant: what is left to read gives what the whole text gives, and no line was counted twice
-pub record Turn (z : Size) (text : List ℕ) (s : State) (rest : List ℕ) (line e : ℕ) : Type 0 where
+pub record Turn (z : Size) (text : List ℕ) (s₀ s : State) (rest : List ℕ) (line e : ℕ) : Type 0 where
   pub found : e ≡ length (first 10 rest)
   pub room : line + length rest ≤ length text + 1
   pub heads : s .heads ≤ line
   pub triples : s .triples ≤ line
-  pub left : readLines z line s rest ≡ readLines z 1 startState text
+  pub left : readLines z line s rest ≡ readLines z 1 s₀ text
 
 module _ (z : Size) (s : State) (n : ℕ) where
   from-refused : (l k : List ℕ) (ls : List (List ℕ)) → (stepOf z s (lineOf (split 9 l)) .refusal ≡ 0 → ⊥) → readFrom z n s l (k ∷ ls) ≡ ends (stepOf z s (lineOf (split 9 l)) .refusal) n s
@@ -41,7 +41,7 @@ module _ (z : Size) (s : State) (n : ℕ) where
   unfolding readFrom
   from-end l h = rw (le-ltb _ _ h)
 
-module _ {z : Size} {text : List ℕ} {s : State} {l : List ℕ} {n e : ℕ} (i : Turn z text s l n e) where
+module _ {z : Size} {text : List ℕ} {s₀ s : State} {l : List ℕ} {n e : ℕ} (i : Turn z text s₀ s l n e) where
   module _ (h : e < length l) {x : Line} (p : x ≡ lineOf (split 9 (take e l))) {t : Step} (q : t ≡ stepOf z s x) where
     is : t ≡ stepOf z s (lineOf (split 9 (first 10 l)))
     is = q ∙ ap (stepOf z s) p ∙ ap (λ f. stepOf z s (lineOf (split 9 f))) (first-piece 10 l (i .found))
@@ -49,16 +49,20 @@ module _ {z : Size} {text : List ℕ} {s : State} {l : List ℕ} {n e : ℕ} (i 
     lines : readLines z n s l ≡ readFrom z n s (first 10 l) (split 10 (after e l))
     lines = ap (readFrom z n s (first 10 l)) (later-after 10 l (i .found) h)
 
-    pub refused-turn : (t .refusal ≡ 0 → ⊥) → ends (t .refusal) n s ≡ readLines z 1 startState text
+    fair : Fair s t
+    fair = rw q (step-fair z s x)
+
+    pub refused-turn : (t .refusal ≡ 0 → ⊥) → ends (t .refusal) n (t .state) ≡ readLines z 1 s₀ text
     refused-turn r =
-        ap (λ u. ends (u .refusal) n s) is
+        ap (ends (t .refusal) n) (fair .kept r)
+        ∙ ap (λ u. ends (u .refusal) n s) is
         ∙ sym (from-refused z s n (first 10 l) _ _ (λ w. r (ap (λ u. u .refusal) is ∙ w)))
         ∙ sym lines
         ∙ i .left
 
-    pub next-turn : t .refusal ≡ 0 → {e′ : ℕ} → e′ ≡ length (first 10 (after e l)) → Turn z text (t .state) (after e l) (n + 1) e′
+    pub next-turn : t .refusal ≡ 0 → {e′ : ℕ} → e′ ≡ length (first 10 (after e l)) → Turn z text s₀ (t .state) (after e l) (n + 1) e′
     next-turn r f =
-        let m : More s (t .state) = rw (← q) at (step-counts z s x) in
+        let m = fair in
         record {
           found = f;
           room = let k = i .room in omega (arith, after-shorter e l h);
@@ -74,34 +78,33 @@ module _ {z : Size} {text : List ℕ} {s : State} {l : List ℕ} {n e : ℕ} (i 
     pub shorter : length (after e l) < length l
     shorter = after-shorter e l h
 
-  pub counted : length text ≤ 45056 → Counted s
-  counted k = let r = i .room in let a = i .heads in let b = i .triples in record { heads = omega arith; triples = omega arith }
-
   module _ (h : length l ≤ e) where
-    last : readFrom z n s l [] ≡ readLines z 1 startState text
+    last : readFrom z n s l [] ≡ readLines z 1 s₀ text
     last = ap (λ f. readFrom z n s f []) (sym (whole-piece 10 l (i .found) h)) ∙ ap (readFrom z n s (first 10 l)) (sym (no-later 10 l (i .found) h)) ∙ i .left
 
-    pub open-line : 0 < length l → ends 2 n s ≡ readLines z 1 startState text
+    pub open-line : 0 < length l → ends 2 n s ≡ readLines z 1 s₀ text
     open-line k = sym (from-open z s n l k) ∙ last
 
-    pub done : length l ≤ 0 → {r : Ended} → r ≡ finished s → r ≡ readLines z 1 startState text
+    pub done : length l ≤ 0 → {r : Ended} → r ≡ finished s → r ≡ readLines z 1 s₀ text
     done k p = p ∙ sym (from-end z s n l k) ∙ last
 
+pub counted : {z : Size} {text : List ℕ} {s₀ : State} {t : Tally} {hs ts l : List ℕ} {n e : ℕ} → Turn z text s₀ (whole t hs ts) l n e → length text ≤ 45056 → Counted t
+counted i k = let r = i .room in let a = i .heads in let b = i .triples in record { heads = omega arith; triples = omega arith }
+
 -- where the loop begins
-pub first-turn : (z : Size) {text : List ℕ} {s : State} {e : ℕ} → s ≡ startState → e ≡ length (first 10 text) → Turn z text s text 1 e
-unfolding startState
-first-turn z {text} {s} {e} q f = record {
+pub first-turn : (z : Size) (hs ts : List ℕ) {text : List ℕ} {t : Tally} {e : ℕ} → t ≡ nothing → e ≡ length (first 10 text) → Turn z text (before hs ts) (whole t hs ts) text 1 e
+first-turn z hs ts {text} {t} {e} q f = record {
   found = f;
   room = omega arith;
   heads = omega (arith, ap (λ u. u .heads) q);
   triples = omega (arith, ap (λ u. u .triples) q);
-  left = ap (λ u. readLines z 1 u text) q;
+  left = ap (λ u. readLines z 1 (whole u hs ts) text) q;
 }
 
 -- a whole text, by its length
-module _ (z : Size) (text : List ℕ) where
-  pub long-text : longest < length text → {s : State} → s ≡ startState → ends 1 0 s ≡ readText z text
-  long-text h e = ap (ends 1 0) e ∙ rw (lt-ltb _ _ h)
+module _ (z : Size) (s : State) (text : List ℕ) where
+  pub long-text : longest < length text → ends 1 0 s ≡ readText z s text
+  long-text h = rw (lt-ltb _ _ h)
 
-  pub short-text : length text ≤ longest → readLines z 1 startState text ≡ readText z text
+  pub short-text : length text ≤ longest → readLines z 1 s text ≡ readText z s text
   short-text h = rw (le-ltb _ _ h)
