@@ -7,9 +7,13 @@ use Rattle.text.specs.Put.{Put}
 use Rattle.ways.specs.Taken.{Arrays, arrays}
 use Rattle.model.specs.declared.Model.{Model}
 use Rattle.ranking.specs.Rank.{Ranked}
+use Rattle.limits.specs.declared.Counts.{Counts}
+use Rattle.draft.specs.declared.Outline.{Outline}
+use Rattle.draft.specs.declared.Noted.{Noted}
+use Rattle.draft.specs.Draft.{Taken}
 use Rattle.rows.specs.declared.Tally.{Tally}
 use Rattle.rows.specs.declared.End.{End}
-use Rattle.rows.specs.State.{Ended, ended}
+use Rattle.rows.specs.State.{Ended}
 use Rattle.refusal.specs.declared.Seen.{Seen}
 use Rattle.refusal.specs.Refusal.{Seeing}
 use Rattle.claims.specs.OneAnswer.{One, Both, OneAnswer}
@@ -26,6 +30,13 @@ endOf e =
     let s = e .state in
     let t : Tally = record { begun = s .begun; rounds = s .rounds; headcount = s .headcount; triplecount = s .triplecount; heads = s .heads; triples = s .triples } in
     (record { refusal = e .refusal; line = e .line; tally = t }, s .headcells, s .triplecells)
+
+abbrev notedOf : Taken → Noted × List Bool × List Bool × List ℕ × List ℕ
+notedOf t =
+    let m = t .draft .model in
+    let k : Counts = record { symbols = m .symbols; states = m .states; events = m .events; started = t .draft .started; rules = m .rules; moves = m .moves } in
+    let o : Outline = record { counts = k; startstate = m .startstate; startsymbol = m .startsymbol } in
+    (record { refusal = t .refusal; outline = o }, m .finals, m .shows, m .rulerows, m .moverows)
 
 -- bytes put into lent memory
 put : (out : List ℕ) (at : ℕ) (s : List ℕ) → Both (λ r after. Put out after at r s)
@@ -70,11 +81,11 @@ each-answer = record {
   next-state = λ rulerows moverows shows r v q. equal _;
   read-line = λ s. equal _;
   refusal-of = λ k w a b c. equal _;
-  take-line = λ d l. equal _;
+  take-line = λ o finals shows rulerows moverows l. parted notedOf (λ x. refl) _;
   measure = λ m heads triples. equal _;
   rank-head = λ z begun cells q g rank. ranked cells _ _;
   rank-triple = λ z begun cells q g e rank. ranked cells _ _;
-  read-text = λ z heads triples text. parted endOf (λ o. refl) _;
+  read-text = λ z heads triples text. parted endOf (λ x. refl) _;
   listing-of = λ text. equal _;
   model-part = λ text. equal _;
   place = λ n at. equal _;

@@ -26,7 +26,9 @@ use Rattle.line.specs.declared.Line.{Line}
 use Rattle.line.specs.Line.{lineOf}
 use Rattle.limits.specs.declared.Counts as limits
 use Rattle.limits.specs.Limits.{refusal, tests}
-use Rattle.draft.specs.declared.Draft.{Draft}
+use Rattle.draft.specs.declared.Outline.{Outline}
+use Rattle.draft.specs.declared.Noted.{Noted}
+use Rattle.draft.specs.Draft.{whole, noted}
 use Rattle.draft.specs.Lines.{takeLine}
 use Rattle.fitting.specs.Fits.{fitOf}
 use Rattle.ranking.specs.Rank.{headFault, tripleFault, Ranked}
@@ -83,14 +85,15 @@ pub record OneAnswer : Type 0 where
   pub read-line : (s : List ℕ) → One (λ r. r ≡ lineOf (split 9 s))
   -- limits and draft
   pub refusal-of : (k : limits.Counts) (w : Word) (a b c : ℕ) → One (λ r. r ≡ refusal (tests k w a b c))
-  pub take-line : (d : Draft) (l : Line) → One (λ r. r ≡ takeLine d l)
+  pub take-line : (o : Outline) (finals shows : List Bool) (rulerows moverows : List ℕ) (l : Line)
+      → One {A = Noted × List Bool × List Bool × List ℕ × List ℕ} (λ x. noted (x .0) (x .1) (x .2) (x .3) (x .4) ≡ takeLine (whole o finals shows rulerows moverows) l)
   -- fitting, ranking and rows
   pub measure : (m : Model) (heads triples : ℕ) → One (λ r. r ≡ fitOf m heads triples)
   pub rank-head : (z : Size) (begun : ℕ) (cells : List ℕ) (q g rank : ℕ)
       → Both (λ r after. Ranked cells after (headFault z begun cells q g rank) (putHead (z .symbols) (z .states) cells q g rank) r)
   pub rank-triple : (z : Size) (begun : ℕ) (cells : List ℕ) (q g e rank : ℕ)
       → Both (λ r after. Ranked cells after (tripleFault z begun cells q g e rank) (putTriple (z .symbols) (z .states) cells q g e rank) r)
-  pub read-text : (z : Size) (heads triples text : List ℕ) → One {A = End × List ℕ × List ℕ} (λ o. ended (o .0) (o .1) (o .2) ≡ readText z (before heads triples) text)
+  pub read-text : (z : Size) (heads triples text : List ℕ) → One {A = End × List ℕ × List ℕ} (λ x. ended (x .0) (x .1) (x .2) ≡ readText z (before heads triples) text)
   -- splitter
   pub listing-of : (text : List ℕ) → One (λ part. part ≡ listingOf text)
   pub model-part : (text : List ℕ) → One (λ part. part ≡ modelPart text)

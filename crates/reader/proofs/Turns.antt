@@ -1,22 +1,22 @@
 -- How `readFrom` goes on, by the place of the next line feed: the invariant of the loop over lines. Assumes nothing.
 use mathlib.Core.Path.{_≡_, sym, ap, _∙_}
+use mathlib.Core.Bool.{false}
 use mathlib.Core.List.{List, []}
 use Prim.Native.Nat.{ℕ, _+_, _<_, _≤_}
 use native.Mathlib.Omega.{arith}
-use lib.ListN.{length, take}
+use lib.ListN.{length, take, replicate}
 use borrow.Author.Tests.{eq-eqb, ne-eqb, lt-ltb, le-ltb}
 use Rattle.text.specs.Split.{first, later, split}
 use Rattle.text.proofs.Split.{after, after-shorter, first-piece, later-after, no-later, whole-piece}
 use Rattle.line.specs.declared.Line.{Line}
 use Rattle.line.specs.Line.{lineOf}
-use Rattle.model.specs.declared.Model.{Model}
-use Rattle.draft.specs.declared.Draft.{Draft}
-use Rattle.draft.specs.declared.Taken.{Taken}
+use Rattle.draft.specs.declared.Outline.{Outline}
+use Rattle.draft.specs.Draft.{Draft, Taken, whole}
 use Rattle.draft.specs.Lines.{takeLine}
 use Rattle.reader.specs.declared.ModelRead.{ModelRead}
 use Rattle.reader.specs.declared.Reading.the-variants.{Accepted, Malformed, Misplaced}
 use Rattle.reader.specs.Reading.{empty, numbered, refused}
-use Rattle.reader.specs.Text.{fresh, finished, readFrom}
+use Rattle.reader.specs.Text.{noOutline, fresh, finished, readFrom}
 
 -- what is left to read
 abbrev pub readAll : ℕ → Draft → List ℕ → ModelRead
@@ -54,22 +54,25 @@ module _ {text : List ℕ} {d : Draft} {l : List ℕ} {n e : ℕ} (i : Turn text
     unfolding readFrom
     open-line z = sym (last ∙ rw (lt-ltb _ _ z)) ∙ i .left
 
-    module _ (z : length l ≤ 0) where
-      done : readAll n d l ≡ finished d
-      unfolding readFrom
-      done = last ∙ rw (le-ltb _ _ z)
-
-      pub no-start : d .started ≡ 0 → refused (Misplaced 0) ≡ readAll 1 fresh text
-      no-start a = sym (done ∙ rw (eq-eqb _ _ a)) ∙ i .left
-
-      pub accepted : (d .started ≡ 0 → ⊥) → record { reading = Accepted; model = d .model } ≡ readAll 1 fresh text
-      accepted a = sym (done ∙ rw (ne-eqb _ _ a)) ∙ i .left
+    pub done : length l ≤ 0 → {r : ModelRead} → r ≡ finished d → r ≡ readAll 1 fresh text
+    unfolding readFrom
+    done z p = p ∙ sym (last ∙ rw (le-ltb _ _ z)) ∙ i .left
 
 -- where the loop begins
-pub first-turn : {text : List ℕ} {e : ℕ} {m : Model} → m ≡ empty → e ≡ length (first 10 text) → Turn text (record { started = 0; model = m }) text 1 e
+pub first-turn : {text : List ℕ} {e : ℕ} {o : Outline} → o ≡ noOutline → e ≡ length (first 10 text)
+    → Turn text (whole o (replicate 8 false) (replicate 512 false) (replicate 1024 0) (replicate 384 0)) text 1 e
+unfolding empty
 first-turn {text} p f =
     record {
       found = f;
       room = omega arith;
-      left = ap (λ m. readAll 1 (record { started = 0; model = m }) text) p;
+      left = ap (λ o. readAll 1 (whole o (replicate 8 false) (replicate 512 false) (replicate 1024 0) (replicate 384 0)) text) p;
     }
+
+-- after the last line, by the start
+module _ (d : Draft) where
+  pub no-start : d .started ≡ 0 → refused (Misplaced 0) ≡ finished d
+  no-start a = rw (eq-eqb _ _ a)
+
+  pub accepted : (d .started ≡ 0 → ⊥) → record { reading = Accepted; model = d .model } ≡ finished d
+  accepted a = rw (ne-eqb _ _ a)

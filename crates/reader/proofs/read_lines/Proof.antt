@@ -3,27 +3,28 @@ use mathlib.Core.Path.{ap, sym, _∙_}
 use lib.ListN.{length}
 use lib.Seq.{length-take-le}
 use Rattle.text.proofs.Split.{place-within, after-shorter}
+use Rattle.draft.specs.Draft.{whole}
 use Rattle.reader.specs.Reading.{refused}
-use Rattle.reader.proofs.Turns.{Turn, first-turn, refused-turn, next-turn, open-line, accepted, no-start}
+use Rattle.reader.proofs.Turns.{Turn, first-turn, refused-turn, next-turn, open-line, done}
 use native.Mathlib.Omega.{arith}
 use borrow.Author.Needs.{needs}
 use Rattle.reader.proofs.read_lines.Statement.{statement}
 use Rattle.reader.proofs.read_lines.Tie as tie
 
 abbrev Inv-loop : tie.InvT-loop
-Inv-loop text d₀ left₀ n₀ e₀ d left n e = Turn text d left n e
+Inv-loop text finals₀ shows₀ rulerows₀ moverows₀ o₀ left₀ n₀ e₀ finals shows rulerows moverows o left n e = Turn text (whole o finals shows rulerows moverows) left n e
 
 abbrev μ-loop : tie.MeasureT-loop
-μ-loop text d₀ left₀ n₀ e₀ d left n e = length left
+μ-loop text finals₀ shows₀ rulerows₀ moverows₀ o₀ left₀ n₀ e₀ finals shows rulerows moverows o left n e = length left
 
-no-model-requires : tie.Need-no-model-requires Inv-loop μ-loop
-no-model-requires c κs = tt
+no-outline-requires : tie.Need-no-outline-requires Inv-loop μ-loop
+no-outline-requires c κs = tt
 
 find-requires : tie.Need-find-requires Inv-loop μ-loop
 find-requires c κs = tt
 
 loop-holds : tie.Need-loop-holds Inv-loop μ-loop
-loop-holds c = first-turn (c .before .no-model .ensures) (c .find .ensures)
+loop-holds c = first-turn (c .before .no-outline .ensures) (c .find .ensures)
 
 slice-aggregate-read-line : tie.Need-slice-aggregate-read-line Inv-loop μ-loop
 slice-aggregate-read-line c = sym (length-take-le _ _ (place-within 10 _ (c .before .before .loop .inv .found)))
@@ -41,10 +42,10 @@ refused-with-requires : tie.Need-refused-with-requires Inv-loop μ-loop
 refused-with-requires c κs = tt
 
 returns : tie.Need-returns Inv-loop μ-loop
-returns c = c .refused-with .ensures ∙ ap refused (c .before .numbered .ensures) ∙ refused-turn (c .before .before .before .before .before .before .before .loop .inv) (c .before .before .before .before .before .before .loop-test .taken) (c .before .before .before .before .read-line .ensures) (c .before .before .before .take-line .ensures) (c .before .before .if1 .taken)
+returns c = c .refused-with .ensures ∙ ap refused (c .before .numbered .ensures) ∙ refused-turn (c .before .before .before .before .before .before .before .before .before .before .before .loop .inv) (c .before .before .before .before .before .before .before .before .before .before .loop-test .taken) (c .before .before .before .before .before .before .before .before .read-line .ensures) (c .before .before .before .take-line .ensures) (c .before .before .if1 .taken)
 
 add-n : tie.Need-add-n Inv-loop μ-loop
-add-n c = let r = c .before .before .before .before .before .before .loop .inv .room in omega arith
+add-n c = let r = c .before .before .before .before .before .before .before .before .before .before .loop .inv .room in omega arith
 
 add-b : tie.Need-add-b Inv-loop μ-loop
 add-b c = omega arith
@@ -62,10 +63,10 @@ find-requires-2 : tie.Need-find-requires-2 Inv-loop μ-loop
 find-requires-2 c κs = tt
 
 loop-less : tie.Need-loop-less Inv-loop μ-loop
-loop-less c = let l = c .before .before .before .before .before .before .before .before .loop in after-shorter (l .e) (l .left .now) (c .before .before .before .before .before .before .before .loop-test .taken)
+loop-less c = let l = c .before .before .before .before .before .before .before .before .before .before .before .before .loop in after-shorter (l .e) (l .left .now) (c .before .before .before .before .before .before .before .before .before .before .before .loop-test .taken)
 
 loop-again : tie.Need-loop-again Inv-loop μ-loop
-loop-again c = next-turn (c .before .before .before .before .before .before .before .before .loop .inv) (c .before .before .before .before .before .before .before .loop-test .taken) (c .before .before .before .before .before .read-line .ensures) (c .before .before .before .before .take-line .ensures) (c .before .before .before .if1 .left) (c .find2 .ensures)
+loop-again c = next-turn (c .before .before .before .before .before .before .before .before .before .before .before .before .loop .inv) (c .before .before .before .before .before .before .before .before .before .before .before .loop-test .taken) (c .before .before .before .before .before .before .before .before .before .read-line .ensures) (c .before .before .before .before .take-line .ensures) (c .before .before .before .if1 .left) (c .find2 .ensures)
 
 refused-with-requires-2 : tie.Need-refused-with-requires-2 Inv-loop μ-loop
 refused-with-requires-2 c κs = tt
@@ -73,40 +74,11 @@ refused-with-requires-2 c κs = tt
 returns-2 : tie.Need-returns-2 Inv-loop μ-loop
 returns-2 c = c .refused-with2 .ensures ∙ open-line (c .before .before .before .loop .inv) (c .before .before .loop-test .left) (c .before .if2 .taken)
 
-refused-with-requires-3 : tie.Need-refused-with-requires-3 Inv-loop μ-loop
-refused-with-requires-3 c κs = tt
+finish-requires : tie.Need-finish-requires Inv-loop μ-loop
+finish-requires c κs = tt
 
 returns-3 : tie.Need-returns-3 Inv-loop μ-loop
-returns-3 c = c .refused-with3 .ensures ∙ no-start (c .before .before .before .before .before .loop .inv) (c .before .before .before .before .loop-test .left) (c .before .before .before .if2 .left) (c .before .if3 .taken)
-
-returns-4 : tie.Need-returns-4 Inv-loop μ-loop
-returns-4 c = accepted (c .before .before .before .before .before .loop .inv) (c .before .before .before .before .loop-test .left) (c .before .before .before .if2 .left) (c .before .if3 .left)
+returns-3 c = done (c .before .before .before .loop .inv) (c .before .before .loop-test .left) (c .before .if2 .left) (c .finish .ensures)
 
 pub read-lines-spec : {M : Type 1} → statement M
-read-lines-spec =
-    tie.close
-    (tie.spec
-    Inv-loop
-    μ-loop
-    no-model-requires
-    find-requires
-    loop-holds
-    slice-aggregate-read-line
-    read-line-requires
-    take-line-requires
-    numbered-requires
-    refused-with-requires
-    returns
-    add-n
-    add-b
-    sub-left
-    part-left-start
-    part-left-end
-    find-requires-2
-    loop-less
-    loop-again
-    refused-with-requires-2
-    returns-2
-    refused-with-requires-3
-    returns-3
-    returns-4)
+read-lines-spec = tie.close (tie.spec Inv-loop μ-loop no-outline-requires find-requires loop-holds slice-aggregate-read-line read-line-requires take-line-requires numbered-requires refused-with-requires returns add-n add-b sub-left part-left-start part-left-end find-requires-2 loop-less loop-again refused-with-requires-2 returns-2 finish-requires returns-3)
