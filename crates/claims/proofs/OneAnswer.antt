@@ -63,8 +63,9 @@ pub each-answer : OneAnswer
 each-answer = record {
   find = λ s c. equal _;
   same = λ a b. equal _;
-  read-number = λ s. equal _;
-  read-numbers = λ s. equal _;
+  find-either = λ s a b. equal _;
+  ends-line = λ s e. equal _;
+  read-fields = λ s. equal _;
   write-number = λ n. equal _;
   head-at = λ z heads q g. equal _;
   triple-at = λ z triples q g e. equal _;

@@ -4,12 +4,13 @@ use mathlib.Core.Bool.{Bool}
 use mathlib.Core.List.{List, [], _∷_}
 use mathlib.Core.Path.{_≡_}
 use Prim.Native.Nat.{ℕ}
-use lib.ListN.{length, take}
+use lib.Dec.{eqb}
+use lib.ListN.{length, getD, take}
 use Rattle.product.specs.Lists.{over, upTo}
 use Rattle.product.specs.Product.{Step}
 use Rattle.product.specs.Facts.{head, consequences}
-use Rattle.text.specs.Split.{first, split, sameBytes}
-use Rattle.numbers.specs.Number.{numberOf, numbersOf}
+use Rattle.text.specs.Split.{first, sameBytes}
+use Rattle.numbers.specs.Field.{fieldsOf}
 use Rattle.numbers.specs.Digits.{digitsOf}
 use Rattle.table.specs.declared.Size.{Size}
 use Rattle.table.specs.Cells.{headCount, tripleCount, longEnough, headIn, tripleIn, putHead, putTriple, cleared, view}
@@ -23,7 +24,7 @@ use Rattle.model.specs.Model.{ruleAt, nextAt}
 use Rattle.model.specs.Valid.{valid}
 use Rattle.line.specs.declared.Word.{Word}
 use Rattle.line.specs.declared.Line.{Line}
-use Rattle.line.specs.Line.{lineOf}
+use Rattle.line.specs.Line.{lineAt}
 use Rattle.limits.specs.declared.Counts as limits
 use Rattle.limits.specs.Limits.{refusal, tests}
 use Rattle.draft.specs.declared.Outline.{Outline}
@@ -62,8 +63,9 @@ pub record OneAnswer : Type 0 where
   -- text
   pub find : (s : List ℕ) (c : ℕ) → One (λ r. r ≡ length (first c s))
   pub same : (a b : List ℕ) → One (λ r. r ≡ sameBytes a b)
-  pub read-number : (s : List ℕ) → One (λ r. r ≡ numberOf s)
-  pub read-numbers : (s : List ℕ) → One (λ r. r ≡ numbersOf (split 9 s))
+  pub find-either : (s : List ℕ) (a b : ℕ) → One (λ r. r ≡ length (first a (first b s)))
+  pub ends-line : (s : List ℕ) (e : ℕ) → One (λ r. r ≡ eqb (getD s e 10) 10)
+  pub read-fields : (s : List ℕ) → One (λ r. r ≡ fieldsOf s)
   pub write-number : (n : ℕ) → One (λ r. r ≡ digitsOf n)
   -- table
   pub head-at : (z : Size) (heads : List ℕ) (q g : ℕ) → One (λ r. r ≡ headIn (z .symbols) (z .states) heads q g)
@@ -82,7 +84,7 @@ pub record OneAnswer : Type 0 where
   pub rule-at : (rulerows : List ℕ) (r : ℕ) → One (λ ρ. ρ ≡ ruleAs (ruleAt rulerows r))
   pub next-state : (rulerows moverows : List ℕ) (shows : List Bool) (r v q : ℕ) → One (λ n. n ≡ nextAs (nextAt rulerows moverows shows r v q))
   -- line
-  pub read-line : (s : List ℕ) → One (λ r. r ≡ lineOf (split 9 s))
+  pub read-line : (s : List ℕ) → One (λ r. r ≡ lineAt s)
   -- limits and draft
   pub refusal-of : (k : limits.Counts) (w : Word) (a b c : ℕ) → One (λ r. r ≡ refusal (tests k w a b c))
   pub take-line : (o : Outline) (finals shows : List Bool) (rulerows moverows : List ℕ) (l : Line)

@@ -2,11 +2,13 @@
 use mathlib.Core.List.{List, [], _∷_}
 use Prim.Native.Nat.{ℕ}
 use lib.Dec.{eqb}
-use Rattle.text.specs.Split.{pick, sameBytes}
+use lib.ListN.{length}
+use Rattle.text.specs.Split.{pick, first, split, sameBytes}
 use Rattle.numbers.specs.Number.{wrong, numbersOf}
 use Rattle.line.specs.declared.Word.{Word}
 use Rattle.line.specs.declared.Word.the-variants.{Size, Start, Final, Event, Exit, Direct, Call, Move, Safe, Head, Erase, Malformed}
 use Rattle.line.specs.declared.Line.{Line}
+use Rattle.line.specs.declared.LineRead.{LineRead}
 
 -- "size"
 abbrev pub size : List ℕ
@@ -92,3 +94,7 @@ unfoldable pub lineOf : List (List ℕ) → Line
 lineOf [] = malformed
 lineOf (w ∷ []) = malformed
 lineOf (w ∷ f ∷ fs) = pick (eqb (numbersOf (f ∷ fs) .count) (wants (wordOf w))) (record { word = wordOf w; numbers = numbersOf (f ∷ fs) }) malformed
+
+-- the line that a text begins with, up to its line feed, and where it ends
+abbrev pub lineAt : List ℕ → LineRead
+lineAt s = record { line = lineOf (split 9 (first 10 s)); end = length (first 10 s) }

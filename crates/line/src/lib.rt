@@ -1,8 +1,8 @@
 // One line of a model text or a listing, without its line feed: its word and its numbers.
 ghost use mathlib.Core.Path.{_≡_};
 ghost use Prim.Native.Nat.{ℕ};
-ghost use Rattle.text.specs.Split.{pick, split, sameBytes};
-ghost use Rattle.line.specs.Line.{wordOf, wants, malformed, lineOf};
+ghost use Rattle.text.specs.Split.{pick, sameBytes};
+ghost use Rattle.line.specs.Line.{wordOf, wants, malformed, lineAt};
 use numbers::Numbers;
 
 // The words of both texts; Malformed is any other.
@@ -89,20 +89,31 @@ fn no_line() -> Line
     }
 }
 
-// What a line says: one test of the count of its numbers serves every word.
-pub fn read_line(s: &[u8]) -> Line
-    ensures { λ r. ⌜ r ≡ lineOf (split 9 (now (s .entry))) ⌝ }
+// A line and where it ends.
+pub struct LineRead {
+    pub line: Line,
+    pub end: usize,
+}
+
+// What the line says that s begins with: one test of the count of its numbers serves every word.
+pub fn read_line(s: &[u8]) -> LineRead
+    ensures { λ r. ⌜ r ≡ lineAt (now (s .entry)) ⌝ }
 {
-    let e = text::find(s, b'\t');
-    if s.len() <= e {
-        return no_line();
+    let e = text::find_either(s, b'\t', b'\n');
+    if text::ends_line(s, e) {
+        let line = no_line();
+        return LineRead { line, end: e };
     }
     let word = word_of(&s[..e]);
     let b = e + 1;
-    let numbers = numbers::read_numbers(&s[b..]);
+    let f = numbers::read_fields(&s[b..]);
+    let end = b + f.end;
+    let numbers = f.numbers;
     let count = wanted(word);
     if numbers.count != count {
-        return no_line();
+        let line = no_line();
+        return LineRead { line, end };
     }
-    Line { word, numbers }
+    let line = Line { word, numbers };
+    LineRead { line, end }
 }

@@ -137,10 +137,21 @@ fn read_lines(text: &[u8]) -> ModelRead
     let mut o = no_outline();
     let mut left = text;
     let mut n: usize = 1;
-    let mut e = text::find(left, b'\n');
-    while e < left.len() {
-        let l = line::read_line(&left[..e]);
-        let t = draft::take_line(&mut finals, &mut shows, &mut rulerows, &mut moverows, o, l);
+    while 0 < left.len() {
+        let l = line::read_line(left);
+        let e = l.end;
+        if left.len() <= e {
+            return refused_with(Reading::Malformed(n));
+        }
+        let said = l.line;
+        let t = draft::take_line(
+            &mut finals,
+            &mut shows,
+            &mut rulerows,
+            &mut moverows,
+            o,
+            said,
+        );
         let refusal = t.refusal;
         if refusal != 0 {
             return refused_with(numbered(refusal, n));
@@ -149,10 +160,6 @@ fn read_lines(text: &[u8]) -> ModelRead
         n += 1;
         let b = e + 1;
         left = &left[b..];
-        e = text::find(left, b'\n');
-    }
-    if 0 < left.len() {
-        return refused_with(Reading::Malformed(n));
     }
     finish(o, finals, shows, rulerows, moverows)
 }

@@ -199,10 +199,18 @@ fn read_lines(heads: &mut [u16], triples: &mut [u16], size: Size, text: &[u8]) -
     let mut t = nothing();
     let mut rest = text;
     let mut line: usize = 1;
-    let mut e = text::find(rest, b'\n');
-    while e < rest.len() {
-        let l = line::read_line(&rest[..e]);
-        let r = take_line(heads, triples, size, t, l);
+    while 0 < rest.len() {
+        let l = line::read_line(rest);
+        let e = l.end;
+        if rest.len() <= e {
+            return End {
+                refusal: 2,
+                line,
+                tally: t,
+            };
+        }
+        let said = l.line;
+        let r = take_line(heads, triples, size, t, said);
         let refusal = r.refusal;
         t = r.tally;
         if refusal != 0 {
@@ -215,14 +223,6 @@ fn read_lines(heads: &mut [u16], triples: &mut [u16], size: Size, text: &[u8]) -
         line += 1;
         let b = e + 1;
         rest = &rest[b..];
-        e = text::find(rest, b'\n');
-    }
-    if 0 < rest.len() {
-        return End {
-            refusal: 2,
-            line,
-            tally: t,
-        };
     }
     finish(t)
 }
