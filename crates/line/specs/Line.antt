@@ -1,9 +1,9 @@
 -- What one line of a model text or a listing says: its word and its numbers. Assumes nothing.
 use mathlib.Core.List.{List, [], _∷_}
 use Prim.Native.Nat.{ℕ}
-use lib.Dec.{eqb}
+use lib.Dec.{T, eqb}
 use lib.ListN.{length}
-use Rattle.text.specs.Split.{pick, first, split, sameBytes}
+use Rattle.text.specs.Split.{pick, first, split, without, sameBytes}
 use Rattle.numbers.specs.Number.{wrong, numbersOf}
 use Rattle.line.specs.declared.Word.{Word}
 use Rattle.line.specs.declared.Word.the-variants.{Size, Start, Final, Event, Exit, Direct, Call, Move, Safe, Head, Erase, Malformed}
@@ -69,6 +69,25 @@ wordOf s =
     (pick (sameBytes s head) Head
     (pick (sameBytes s erase) Erase
     Malformed))))))))))
+
+-- a spelling has no tab and no line feed
+abbrev pub Plain : List ℕ → Type 0
+Plain s = T (without 9 s) × T (without 10 s)
+
+-- how many letters a word has
+abbrev pub letters : Word → ℕ
+letters Size = 4
+letters Start = 5
+letters Final = 5
+letters Event = 5
+letters Exit = 4
+letters Direct = 6
+letters Call = 4
+letters Move = 4
+letters Safe = 4
+letters Head = 4
+letters Erase = 5
+letters Malformed = 0
 
 -- how many numbers come after it
 abbrev pub wants : Word → ℕ

@@ -1,6 +1,6 @@
 -- The field that a text begins with, by the digits that it begins with. Assumes nothing.
 use mathlib.Core.Path.{_≡_, refl, ap, sym, _∙_}
-use mathlib.Core.Bool.{Bool, true, false}
+use mathlib.Core.Bool.{Bool, true, false, _||_}
 use mathlib.Core.List.{List, [], _∷_}
 use Prim.Native.Nat.{ℕ, _+_, _-_, _*_, _<_, _≤_}
 use native.Mathlib.Omega.{arith}
@@ -10,7 +10,7 @@ use lib.Seq.{getD-take}
 use borrow.Author.Tests.{lt-ltb, le-ltb, eq-eqb, ne-eqb, eqb-true, eqb-false, ltb-true, ltb-false}
 use Rattle.text.specs.Split.{pick, first}
 use Rattle.text.proofs.Split.{first-take, place-within}
-use Rattle.text.proofs.Stops.{either-a, either-b, either-next, either-end}
+use Rattle.text.proofs.Stops.{either-a, either-b, either-next, either-end, either-stop}
 use Rattle.numbers.specs.Number.{spelled, numberOf}
 use Rattle.numbers.specs.Field.{field, Begins, fieldBy, fieldOf}
 use Rattle.numbers.specs.declared.Number.{Number}
@@ -28,20 +28,6 @@ module _ (v i : ℕ) (s : List ℕ) (h : i < length s) (low : 48 ≤ getD s i 0)
 
   pub digit-long : length (field (drop i s)) ≡ 1 + length (field (drop (i + 1) s))
   digit-long = rw on (omega arith)
-
--- a field ends at i, by the byte there
-pub ended-past : (i : ℕ) (s : List ℕ) → length s ≤ i → true ≡ eqb (length (field (drop i s))) 0
-ended-past i s h = sym (eq-eqb _ 0 (ap length (either-end 9 10 s i h)))
-
-pub ended-tab : (i : ℕ) (s : List ℕ) → i < length s → getD s i 0 ≡ 9 → true ≡ eqb (length (field (drop i s))) 0
-ended-tab i s h e = sym (eq-eqb _ 0 (ap length (either-a 9 10 s i h e)))
-
-pub ended-line : (i : ℕ) (s : List ℕ) → i < length s → (getD s i 0 ≡ 9 → ⊥) → eqb (getD s i 0) 10 ≡ eqb (length (field (drop i s))) 0
-ended-line i s h n = go (eqb (getD s i 0) 10) refl
-  where
-    go : (t : Bool) → eqb (getD s i 0) 10 ≡ t → t ≡ eqb (length (field (drop i s))) 0
-    go true e = sym (eq-eqb _ 0 (ap length (either-b 9 10 s i h (eqb-true _ _ e))))
-    go false e = sym (ne-eqb _ 0 (λ k. let z = sym (ap length (either-next 9 10 s i h n (eqb-false _ _ e))) ∙ k in omega arith))
 
 -- another byte, which is in the field
 other-byte : (v i : ℕ) (s : List ℕ) → (48 ≤ getD s i 0 → getD s i 0 ≤ 57 → ⊥) → (fs : List ℕ) → spelled v (getD s i 0 ∷ fs) ≡ Bad
@@ -85,23 +71,28 @@ first-byte s h =
 
 -- the answers of `read_field`
 module _ (s : List ℕ) where
-  no-number : numberOf (field s) ≡ Bad → {f : FieldRead} → f ≡ fieldBy Bad 0 → f ≡ fieldOf s
+  no-number : numberOf (field s) ≡ Bad → {f : FieldRead} → f ≡ fieldBy Bad 0 0 → f ≡ fieldOf s
   no-number e p = p ∙ rw e
 
-  is-number : (v : ℕ) {i : ℕ} → numberOf (field s) ≡ Is v → length (field s) ≡ i → fieldBy (Is v) i ≡ fieldOf s
-  is-number v e l = rw (e, l)
+  is-number : (v : ℕ) {i b : ℕ} → b ≡ getD s i 10 → numberOf (field s) ≡ Is v → length (field s) ≡ i → fieldBy (Is v) i b ≡ fieldOf s
+  is-number v p e l = rw (e, l, p)
 
 module _ (s : List ℕ) {v i : ℕ} (g : Begins s v i) where
-  pub too-many : 5 < i → {f : FieldRead} → f ≡ fieldBy Bad 0 → f ≡ fieldOf s
+  pub too-many : 5 < i → {f : FieldRead} → f ≡ fieldBy Bad 0 0 → f ≡ fieldOf s
   unfolding numberOf
   too-many h = no-number s (rw (ne-eqb (length (field s)) 0 (λ e. omega (arith, g .long)), lt-ltb 5 (length (field s)) (omega (arith, g .long))))
 
-  pub not-ended : i ≤ 5 → (length (field (drop i s)) ≡ 0 → ⊥) → {f : FieldRead} → f ≡ fieldBy Bad 0 → f ≡ fieldOf s
-  not-ended h some = no-number s (unspelled (field s) (sym (g .reads) ∙ other-reads v i s some (g .stops h)))
+  pub not-ended : i ≤ 5 → {b : ℕ} → b ≡ getD s i 10 → (eqb b 9 || eqb b 10) ≡ false → {f : FieldRead} → f ≡ fieldBy Bad 0 0 → f ≡ fieldOf s
+  not-ended h stop on =
+      let some = eqb-false (length (field (drop i s))) 0 (sym (either-stop 9 10 s i) ∙ sym (ap (λ x. eqb x 9 || eqb x 10) stop) ∙ on) in
+      no-number s (unspelled (field s) (sym (g .reads) ∙ other-reads v i s some (g .stops h)))
 
-  module _ (h : i ≤ 5) (none : length (field (drop i s)) ≡ 0) where
+  module _ (h : i ≤ 5) {b : ℕ} (stop : b ≡ getD s i 10) (stopped : (eqb b 9 || eqb b 10) ≡ true) where
+    none : length (field (drop i s)) ≡ 0
+    none = eqb-true _ 0 (sym (either-stop 9 10 s i) ∙ sym (ap (λ x. eqb x 9 || eqb x 10) stop) ∙ stopped)
+
     length-is : length (field s) ≡ i
-    length-is = omega (arith, g .long)
+    length-is = omega (arith, g .long, none)
 
     spelled-is : spelled 0 (field s) ≡ Is v
     unfolding spelled
@@ -111,14 +102,14 @@ module _ (s : List ℕ) {v i : ℕ} (g : Begins s v i) where
         go [] e = refl
         go (b ∷ f) e = absurd (omega arith)
 
-    pub no-digit : i ≡ 0 → {f : FieldRead} → f ≡ fieldBy Bad 0 → f ≡ fieldOf s
+    pub no-digit : i ≡ 0 → {f : FieldRead} → f ≡ fieldBy Bad 0 0 → f ≡ fieldOf s
     unfolding numberOf
     no-digit z = no-number s (rw (eq-eqb (length (field s)) 0 (length-is ∙ z)))
 
-    pub one-digit : i ≡ 1 → fieldBy (Is v) i ≡ fieldOf s
+    pub one-digit : i ≡ 1 → fieldBy (Is v) i b ≡ fieldOf s
     unfolding numberOf
     one-digit o =
-        is-number s v
+        is-number s v stop
         (rw (ne-eqb (length (field s)) 0 (λ e. omega (arith, length-is)), le-ltb 5 (length (field s)) (omega (arith, length-is)), eq-eqb (length (field s)) 1 (length-is ∙ o)) spelled-is)
         length-is
 
@@ -126,33 +117,38 @@ module _ (s : List ℕ) {v i : ℕ} (g : Begins s v i) where
       byte : getD (field s) 0 0 ≡ getD s 0 0
       byte = first-byte s (omega (arith, length-is))
 
-      pub leading-zero : getD s 0 0 ≡ 48 → {f : FieldRead} → f ≡ fieldBy Bad 0 → f ≡ fieldOf s
+      pub leading-zero : getD s 0 0 ≡ 48 → {f : FieldRead} → f ≡ fieldBy Bad 0 0 → f ≡ fieldOf s
       unfolding numberOf
       leading-zero e =
           no-number s
           (rw (ne-eqb (length (field s)) 0 (λ e. omega (arith, length-is)), le-ltb 5 (length (field s)) (omega (arith, length-is)), ne-eqb (length (field s)) 1 (λ e. omega (arith, length-is)), eq-eqb (getD (field s) 0 0) 48 (byte ∙ e)))
 
-      pub more-digits : (getD s 0 0 ≡ 48 → ⊥) → fieldBy (Is v) i ≡ fieldOf s
+      pub more-digits : (getD s 0 0 ≡ 48 → ⊥) → fieldBy (Is v) i b ≡ fieldOf s
       unfolding numberOf
       more-digits e =
-          is-number s v
+          is-number s v stop
           (rw (ne-eqb (length (field s)) 0 (λ e. omega (arith, length-is)), le-ltb 5 (length (field s)) (omega (arith, length-is)), ne-eqb (length (field s)) 1 (λ e. omega (arith, length-is)), ne-eqb (getD (field s) 0 0) 48 (λ k. e (sym byte ∙ k))) spelled-is)
           length-is
 
 -- a field that was read
-field-by : (n : Number) (e : ℕ) {f : FieldRead} → f ≡ fieldBy n e → {v : ℕ} → f .number ≡ Is v → (n ≡ Is v) × (f .end ≡ e)
-field-by Bad e p q = let z : _≡_ {A = ℕ} 0 1 = cc in absurd (omega arith)
-field-by (Is w) e p q = (cc, ap (λ f. f .end) p)
+pub record Whole (s : List ℕ) (f : FieldRead) (v : ℕ) : Type 0 where
+  pub number : numberOf (field s) ≡ Is v
+  pub end : f .end ≡ length (field s)
+  pub stop : f .stop ≡ getD s (f .end) 10
 
-pub field-is : (s : List ℕ) {f : FieldRead} → f ≡ fieldOf s → {v : ℕ} → f .number ≡ Is v → (numberOf (field s) ≡ Is v) × (f .end ≡ length (field s))
-field-is s p q = field-by (numberOf (field s)) (length (field s)) p q
+pub field-is : (s : List ℕ) {f : FieldRead} → f ≡ fieldOf s → {v : ℕ} → f .number ≡ Is v → Whole s f v
+field-is s {f} p {v} q = go (numberOf (field s)) refl p
+  where
+    go : (n : Number) → numberOf (field s) ≡ n → f ≡ fieldBy n (length (field s)) (getD s (length (field s)) 10) → Whole s f v
+    go Bad e p = let z : _≡_ {A = ℕ} 0 1 = cc in absurd (omega arith)
+    go (Is w) e p = record { number = cc; end = ap (λ f. f .end) p; stop = ap (λ f. f .stop) p ∙ ap (λ x. getD s x 10) (sym (ap (λ f. f .end) p)) }
 
 pub end-within : (s : List ℕ) {f : FieldRead} → f ≡ fieldOf s → {v : ℕ} → f .number ≡ Is v → f .end ≤ length s
-end-within s p q = omega (arith, field-is s p q .1, place-within 9 (first 10 s) refl, place-within 10 s refl)
-
-field-none : (n : Number) (e : ℕ) {f : FieldRead} → f ≡ fieldBy n e → f .number ≡ Bad → n ≡ Bad
-field-none Bad e p q = refl
-field-none (Is w) e p q = let z : _≡_ {A = ℕ} 0 1 = cc in absurd (omega arith)
+end-within s p q = omega (arith, field-is s p q .end, place-within 9 (first 10 s) refl, place-within 10 s refl)
 
 pub field-bad : (s : List ℕ) {f : FieldRead} → f ≡ fieldOf s → f .number ≡ Bad → numberOf (field s) ≡ Bad
-field-bad s p q = field-none (numberOf (field s)) (length (field s)) p q
+field-bad s {f} p q = go (numberOf (field s)) p
+  where
+    go : (n : Number) → f ≡ fieldBy n (length (field s)) (getD s (length (field s)) 10) → n ≡ Bad
+    go Bad p = refl
+    go (Is w) p = let z : _≡_ {A = ℕ} 0 1 = cc in absurd (omega arith)

@@ -72,33 +72,33 @@ module _ {s : List ℕ} {n : Numbers} {begins : ℕ} {l : List ℕ} (i : Turn s 
 
   module _ {v : ℕ} (q : f .number ≡ Is v) where
     pub full-turn : most ≤ n .count → {r : FieldsRead} → r ≡ fieldsBy wrong (length (first 10 s)) → r ≡ fieldsOf s
-    full-turn h = wrong-line (ap (push n) (field-is l p q .0) ∙ rw (le-ltb (n .count) most h))
+    full-turn h = wrong-line (ap (push n) (field-is l p q .number) ∙ rw (le-ltb (n .count) most h))
 
     module _ (h : n .count < most) where
       pushed : push n (numberOf (field l)) ≡ with n v
-      pushed = ap (push n) (field-is l p q .0) ∙ rw (lt-ltb (n .count) most h)
+      pushed = ap (push n) (field-is l p q .number) ∙ rw (lt-ltb (n .count) most h)
 
-      pub last-turn : getD l (f .end) 10 ≡ 10 → fieldsBy (with n v) (begins + f .end) ≡ fieldsOf s
+      pub last-turn : f .stop ≡ 10 → fieldsBy (with n v) (begins + f .end) ≡ fieldsOf s
       last-turn g =
-          let e : length (first 10 l) ≡ f .end = line-end 9 10 l (field-is l p q .1) (λ x. let z : _≡_ {A = ℕ} 9 10 = x in omega arith) g in
+          let e : length (first 10 l) ≡ f .end = line-end 9 10 l (field-is l p q .end) (λ x. let z : _≡_ {A = ℕ} 9 10 = x in omega arith) (sym (field-is l p q .stop) ∙ g) in
           ap (λ m. fieldsBy m (begins + f .end))
-          (sym pushed ∙ sym (from-last n (field l)) ∙ ap (λ fs. numbersFrom n (field l ∷ fs)) (sym (no-fields 9 10 l (field-is l p q .1) e)) ∙ i .left)
+          (sym pushed ∙ sym (from-last n (field l)) ∙ ap (λ fs. numbersFrom n (field l ∷ fs)) (sym (no-fields 9 10 l (field-is l p q .end) e)) ∙ i .left)
           ∙ ap (fieldsBy (numbersOf (split 9 (first 10 s)))) (ap (λ x. begins + x) (sym e) ∙ i .ends)
 
-      module _ (g : getD l (f .end) 10 ≡ 10 → ⊥) where
+      module _ (g : f .stop ≡ 10 → ⊥) where
         goes : f .end < length (first 10 l)
-        goes = line-on 9 10 l (field-is l p q .1) g
+        goes = line-on 9 10 l (field-is l p q .end) (λ e. g (field-is l p q .stop ∙ e))
 
         pub inside : f .end < length l
-        inside = place-inside 9 10 l (field-is l p q .1) goes
+        inside = place-inside 9 10 l (field-is l p q .end) goes
 
         pub next-turn : Turn s (with n v) (begins + (f .end + 1)) (after (f .end) l)
         next-turn = record {
           left =
-              ap (numbersFrom (with n v)) (sym (fields-after 9 10 l (field-is l p q .1) goes))
+              ap (numbersFrom (with n v)) (sym (fields-after 9 10 l (field-is l p q .end) goes))
               ∙ ap (λ m. numbersFrom m (later 9 (first 10 l))) (sym pushed)
               ∙ sym (from-next n (field l) (later 9 (first 10 l)) (λ e. let z = sym (ap (λ m. m .count) pushed) ∙ e in omega arith))
               ∙ i .left;
-          ends = let x = i .ends in omega (arith, end-after 9 10 l (field-is l p q .1) goes);
+          ends = let x = i .ends in omega (arith, end-after 9 10 l (field-is l p q .end) goes);
           fits = let x = i .fits in omega (arith, inside, ap length (tail-part l (f .end + 1)), length-drop (f .end + 1) l);
         }

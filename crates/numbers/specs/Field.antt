@@ -22,13 +22,13 @@ pub record Begins (s : List ℕ) (v i : ℕ) : Type 0 where
   pub long : i + length (field (drop i s)) ≡ length (field s)
   pub stops : i ≤ 5 → i < length s → 48 ≤ getD s i 0 → getD s i 0 ≤ 57 → ⊥
 
--- a field's number and where it ends, 0 where it is no number
-abbrev pub fieldBy : Number → ℕ → FieldRead
-fieldBy Bad e = record { number = Bad; end = 0 }
-fieldBy (Is v) e = record { number = Is v; end = e }
+-- a field's number, where it ends and the byte there, zeros where it is no number; past the end there stands a line feed
+abbrev pub fieldBy : Number → (end stop : ℕ) → FieldRead
+fieldBy Bad e b = record { number = Bad; end = 0; stop = 0 }
+fieldBy (Is v) e b = record { number = Is v; end = e; stop = b }
 
 abbrev pub fieldOf : List ℕ → FieldRead
-fieldOf s = fieldBy (numberOf (field s)) (length (field s))
+fieldOf s = fieldBy (numberOf (field s)) (length (field s)) (getD s (length (field s)) 10)
 
 -- the numbers of a line and where it ends
 abbrev pub fieldsBy : Numbers → ℕ → FieldsRead

@@ -3,8 +3,6 @@
 ghost use mathlib.Core.Path.{_≡_};
 ghost use Prim.Native.Nat.{ℕ, _+_, _<_, _≤_};
 ghost use lib.ListN.{length};
-ghost use lib.Dec.{eqb};
-ghost use lib.ListN.{drop};
 ghost use Rattle.text.specs.Split.{first};
 ghost use Rattle.numbers.specs.Number.{wrong};
 ghost use Rattle.numbers.specs.Field.{field, Begins, fieldBy, fieldOf, fieldsBy, fieldsOf};
@@ -20,10 +18,11 @@ pub enum Number {
     Bad,
 }
 
-// The number of the field that a text begins with, and where the field ends: 0 where it is no number.
+// The number of the field that a text begins with, where the field ends, and the byte there: zeros where it is no number.
 struct FieldRead {
     number: Number,
     end: usize,
+    stop: u8,
 }
 
 // The digits that a text begins with: how many, six at the most, and the number that they write.
@@ -73,25 +72,13 @@ fn read_digits(s: &[u8]) -> Run
     Run { count, value }
 }
 
-// Whether a field ends at e: there stands a tab or a line feed, or nothing.
-fn ends_field(s: &[u8], e: usize) -> bool
-    ensures { λ r. ⌜ r ≡ eqb (length (field (drop e (now (s .entry))))) 0 ⌝ }
-{
-    if s.len() <= e {
-        return true;
-    }
-    if s[e] == b'\t' {
-        return true;
-    }
-    s[e] == b'\n'
-}
-
 fn no_field() -> FieldRead
-    ensures { λ r. ⌜ r ≡ fieldBy Bad 0 ⌝ }
+    ensures { λ r. ⌜ r ≡ fieldBy Bad 0 0 ⌝ }
 {
     FieldRead {
         number: Number::Bad,
         end: 0,
+        stop: 0,
     }
 }
 
@@ -104,7 +91,8 @@ fn read_field(s: &[u8]) -> FieldRead
     if 5 < end {
         return no_field();
     }
-    if !ends_field(s, end) {
+    let stop = text::byte_at(s, end);
+    if !text::is_stop(stop) {
         return no_field();
     }
     if end == 0 {
@@ -112,12 +100,12 @@ fn read_field(s: &[u8]) -> FieldRead
     }
     let number = Number::Is(run.value);
     if end == 1 {
-        return FieldRead { number, end };
+        return FieldRead { number, end, stop };
     }
     if s[0] == b'0' {
         return no_field();
     }
-    FieldRead { number, end }
+    FieldRead { number, end, stop }
 }
 
 // A line whose fields are wrong.
@@ -154,7 +142,7 @@ pub fn read_fields(s: &[u8]) -> FieldsRead
         at[count] = v;
         count += 1;
         let e = f.end;
-        if text::ends_line(rest, e) {
+        if f.stop == b'\n' {
             let numbers = Numbers { count, at };
             return FieldsRead {
                 numbers,

@@ -1,17 +1,23 @@
 -- The line that a text begins with, by the place of its first tab or line feed: the bytes a and b here. Assumes nothing.
 use mathlib.Core.Path.{_≡_, refl, ap, sym, _∙_}
-use mathlib.Core.Bool.{Bool, true, false}
+use mathlib.Core.Bool.{Bool, true, false, _||_}
 use mathlib.Core.List.{List, [], _∷_}
 use Prim.Native.Nat.{ℕ, zero, suc, _+_, _<_, _≤_}
 use native.Mathlib.Nat.{not-suc-le-zero, le-of-suc-le-suc}
 use native.Mathlib.Omega.{arith}
 use lib.Dec.{eqb, ltb}
-use lib.ListN.{length, getD, take, drop, length-drop, List·getD-eq-default}
+use lib.ListN.{length, getD, drop, length-drop, List·getD-eq-default}
 use lib.Seq.{getD-take}
 use borrow.Author.Tests.{eq-eqb, ne-eqb, eqb-true, eqb-false, ltb-true, ltb-false}
 use Rattle.text.specs.Split.{pick, first, later, split}
 use Rattle.text.proofs.Lists.{tail-part}
 use Rattle.text.proofs.Split.{first-at, first-next, first-end, first-take, place-within, no-later, later-after, after}
+
+-- an element that is there, whatever stands for those that are not
+pub there : (s : List ℕ) (i d k : ℕ) → i < length s → getD s i d ≡ getD s i k
+there [] i d k h = absurd (not-suc-le-zero h)
+there (x ∷ s) zero d k h = refl
+there (x ∷ s) (suc i) d k h = there s i d k (le-of-suc-le-suc h)
 
 -- how the piece before the first a or b goes on at i
 module _ (a b : ℕ) (s : List ℕ) (i : ℕ) where
@@ -35,19 +41,24 @@ module _ (a b : ℕ) (s : List ℕ) (i : ℕ) where
   unfolding first
   either-end h = rw (first-end b s i h)
 
--- that piece is the part before the place that is found
-either-take : (a b : ℕ) (s : List ℕ) → take (length (first a (first b s))) s ≡ first a (first b s)
-unfolding first
-either-take a b [] = refl
-either-take a b (x ∷ s) = go (either-take a b s) (eqb x b)
-  where
-    more : take (length (first a (first b s))) s ≡ first a (first b s) → (u : Bool) → take (length (pick u [] (x ∷ first a (first b s)))) (x ∷ s) ≡ pick u [] (x ∷ first a (first b s))
-    more e true = refl
-    more e false = ap (λ l. x ∷ l) e
+  -- it ends at i, by the byte there; past the end there stands a b
+  pub either-stop : (eqb (getD s i b) a || eqb (getD s i b) b) ≡ eqb (length (first a (first b (drop i s)))) 0
+  either-stop = go (ltb i (length s)) (eqb (getD s i 0) a) (eqb (getD s i 0) b) refl refl refl
+    where
+      left : (x y : Bool) → y ≡ true → (x || y) ≡ true
+      left true y e = refl
+      left false y e = e
 
-    go : take (length (first a (first b s))) s ≡ first a (first b s) → (t : Bool) → take (length (first a (pick t [] (x ∷ first b s)))) (x ∷ s) ≡ first a (pick t [] (x ∷ first b s))
-    go e true = refl
-    go e false = more e (eqb x a)
+      go : (x y z : Bool) → ltb i (length s) ≡ x → eqb (getD s i 0) a ≡ y → eqb (getD s i 0) b ≡ z
+          → (eqb (getD s i b) a || eqb (getD s i b) b) ≡ eqb (length (first a (first b (drop i s)))) 0
+      go false y z p q r =
+          left (eqb (getD s i b) a) (eqb (getD s i b) b) (eq-eqb _ _ (List·getD-eq-default s b (ltb-false _ _ p)))
+          ∙ sym (eq-eqb _ 0 (ap length (either-end (ltb-false _ _ p))))
+      go true true z p q r = rw (there s i b 0 (ltb-true _ _ p), q) (sym (eq-eqb _ 0 (ap length (either-a (ltb-true _ _ p) (eqb-true _ _ q)))))
+      go true false true p q r = rw (there s i b 0 (ltb-true _ _ p), q, r) (sym (eq-eqb _ 0 (ap length (either-b (ltb-true _ _ p) (eqb-true _ _ r)))))
+      go true false false p q r =
+          rw (there s i b 0 (ltb-true _ _ p), q, r)
+          (sym (ne-eqb _ 0 (λ k. let z = sym (ap length (either-next (ltb-true _ _ p) (eqb-false _ _ q) (eqb-false _ _ r))) ∙ k in omega arith)))
 
 -- the byte at the end of the first piece, and what is left of the piece at i
 first-stop : (c : ℕ) (s : List ℕ) → length (first c s) < length s → getD s (length (first c s)) 0 ≡ c
@@ -71,17 +82,8 @@ first-drop c (x ∷ s) (suc i) h = go (first-drop c s i) (eqb x c) h
     go more true h = absurd (not-suc-le-zero h)
     go more false h = more (le-of-suc-le-suc h)
 
--- an element that is there, whatever stands for those that are not
-pub there : (s : List ℕ) (i d k : ℕ) → i < length s → getD s i d ≡ getD s i k
-there [] i d k h = absurd (not-suc-le-zero h)
-there (x ∷ s) zero d k h = refl
-there (x ∷ s) (suc i) d k h = there s i d k (le-of-suc-le-suc h)
-
 -- the line up to the first b, by the place e of the first a or b; past the end there stands a b
 module _ (a b : ℕ) (s : List ℕ) {e : ℕ} (f : e ≡ length (first a (first b s))) where
-  pub first-field : take e s ≡ first a (first b s)
-  first-field = rw f (either-take a b s)
-
   at-a : e < length (first b s) → getD s e 0 ≡ a
   at-a h =
       sym (getD-take (length (first b s)) s e 0 h)

@@ -1,4 +1,5 @@
 // The bytes of a text: where a byte stands, and whether two runs of bytes are the same.
+ghost use mathlib.Core.Bool.{_||_};
 ghost use mathlib.Core.Path.{_≡_};
 ghost use lib.Dec.{eqb};
 ghost use lib.ListN.{length, getD};
@@ -18,32 +19,24 @@ pub fn find(s: &[u8], c: u8) -> usize
     at
 }
 
-// Where the first a or b of s stands, likewise.
-pub fn find_either(s: &[u8], a: u8, b: u8) -> usize
-    ensures { λ r. ⌜ r ≡ length (first a (first b (now (s .entry)))) ⌝ }
-{
-    let mut at = 0;
-    while at < s.len() {
-        let x = s[at];
-        if x == a {
-            return at;
-        }
-        if x == b {
-            return at;
-        }
-        at += 1;
-    }
-    at
-}
-
-// Whether a line ends at e: there stands a line feed, or nothing.
-pub fn ends_line(s: &[u8], e: usize) -> bool
-    ensures { λ r. ⌜ r ≡ eqb (getD (now (s .entry)) e 10) 10 ⌝ }
+// The byte at e; past the end there stands a line feed, as at the end of any line.
+pub fn byte_at(s: &[u8], e: usize) -> u8
+    ensures { λ r. ⌜ r ≡ getD (now (s .entry)) e 10 ⌝ }
 {
     if s.len() <= e {
+        return b'\n';
+    }
+    s[e]
+}
+
+// Whether a field ends before b: a tab or a line feed.
+pub fn is_stop(b: u8) -> bool
+    ensures { λ r. ⌜ r ≡ (eqb b 9 || eqb b 10) ⌝ }
+{
+    if b == b'\t' {
         return true;
     }
-    s[e] == b'\n'
+    b == b'\n'
 }
 
 // Whether two slices hold the same bytes.

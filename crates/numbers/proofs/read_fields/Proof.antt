@@ -1,7 +1,5 @@
 -- `numbers::read_fields` meets its contract. Assumes nothing.
-use mathlib.Core.Path.{sym, _∙_}
 use lib.ListN.{length}
-use borrow.Author.Tests.{eqb-true, eqb-false}
 use Rattle.text.proofs.Split.{after-shorter}
 use Rattle.numbers.proofs.Field.{end-within}
 use Rattle.numbers.proofs.Fields.{Turn, first-turn, bad-turn, full-turn, last-turn, next-turn, inside}
@@ -49,35 +47,32 @@ array-write-at c = search needs
 add-count : tie.Need-add-count Inv-loop μ-loop
 add-count c = omega arith
 
-ends-line-requires : tie.Need-ends-line-requires Inv-loop μ-loop
-ends-line-requires c κs = tt
-
-add-t18 : tie.Need-add-t18 Inv-loop μ-loop
-add-t18 c = let i = c .before .before .before .before .before .before .before .loop .inv in omega (arith, i .fits, end-within (c .before .before .before .before .before .before .before .loop .rest .now) (c .before .before .before .before .before .before .read-field .ensures) (c .before .before .before .before .number .given .1))
+add-t17 : tie.Need-add-t17 Inv-loop μ-loop
+add-t17 c = let i = c .before .before .before .before .before .before .before .loop .inv in omega (arith, i .fits, end-within (c .before .before .before .before .before .before .before .loop .rest .now) (c .before .before .before .before .before .before .read-field .ensures) (c .before .before .before .before .number .given .1))
 
 returns-3 : tie.Need-returns-3 Inv-loop μ-loop
-returns-3 c = last-turn (c .before .before .before .before .before .before .before .loop .inv) (c .before .before .before .before .before .before .read-field .ensures) (c .before .before .before .before .number .given .1) (c .before .before .if1 .left) (let e = sym (c .before .ends-line .ensures) ∙ c .if2 .taken in eqb-true _ _ e)
+returns-3 c = last-turn (c .before .before .before .before .before .before .before .loop .inv) (c .before .before .before .before .before .before .read-field .ensures) (c .before .before .before .before .number .given .1) (c .before .before .if1 .left) (c .if2 .taken)
 
 add-b : tie.Need-add-b Inv-loop μ-loop
 add-b c = let i = c .before .before .before .before .before .before .before .loop .inv in omega (arith, i .fits, end-within (c .before .before .before .before .before .before .before .loop .rest .now) (c .before .before .before .before .before .before .read-field .ensures) (c .before .before .before .before .number .given .1))
 
 sub-rest : tie.Need-sub-rest Inv-loop μ-loop
-sub-rest c = let h = inside (c .before .before .before .before .before .before .before .loop .inv) (c .before .before .before .before .before .before .read-field .ensures) (c .before .before .before .before .number .given .1) (c .before .before .if1 .left) (let e = sym (c .before .ends-line .ensures) ∙ c .if2 .left in eqb-false _ _ e) in search needs
+sub-rest c = let h = inside (c .before .before .before .before .before .before .before .loop .inv) (c .before .before .before .before .before .before .read-field .ensures) (c .before .before .before .before .number .given .1) (c .before .before .if1 .left) (c .if2 .left) in search needs
 
 part-rest-start : tie.Need-part-rest-start Inv-loop μ-loop
-part-rest-start c = let h = inside (c .before .before .before .before .before .before .before .loop .inv) (c .before .before .before .before .before .before .read-field .ensures) (c .before .before .before .before .number .given .1) (c .before .before .if1 .left) (let e = sym (c .before .ends-line .ensures) ∙ c .if2 .left in eqb-false _ _ e) in search needs
+part-rest-start c = let h = inside (c .before .before .before .before .before .before .before .loop .inv) (c .before .before .before .before .before .before .read-field .ensures) (c .before .before .before .before .number .given .1) (c .before .before .if1 .left) (c .if2 .left) in search needs
 
 part-rest-end : tie.Need-part-rest-end Inv-loop μ-loop
-part-rest-end c = let h = inside (c .before .before .before .before .before .before .before .loop .inv) (c .before .before .before .before .before .before .read-field .ensures) (c .before .before .before .before .number .given .1) (c .before .before .if1 .left) (let e = sym (c .before .ends-line .ensures) ∙ c .if2 .left in eqb-false _ _ e) in search needs
+part-rest-end c = let h = inside (c .before .before .before .before .before .before .before .loop .inv) (c .before .before .before .before .before .before .read-field .ensures) (c .before .before .before .before .number .given .1) (c .before .before .if1 .left) (c .if2 .left) in search needs
 
 add-begins : tie.Need-add-begins Inv-loop μ-loop
-add-begins c = let i = c .before .before .before .before .before .before .before .before .loop .inv in let h = inside (c .before .before .before .before .before .before .before .before .loop .inv) (c .before .before .before .before .before .before .before .read-field .ensures) (c .before .before .before .before .before .number .given .1) (c .before .before .before .if1 .left) (let e = sym (c .before .before .ends-line .ensures) ∙ c .before .if2 .left in eqb-false _ _ e) in omega (arith, i .fits)
+add-begins c = let i = c .before .before .before .before .before .before .before .before .loop .inv in let h = inside (c .before .before .before .before .before .before .before .before .loop .inv) (c .before .before .before .before .before .before .before .read-field .ensures) (c .before .before .before .before .before .number .given .1) (c .before .before .before .if1 .left) (c .before .if2 .left) in omega (arith, i .fits)
 
 loop-less : tie.Need-loop-less Inv-loop μ-loop
-loop-less c = after-shorter _ (c .before .before .before .before .before .before .before .before .loop .rest .now) (inside (c .before .before .before .before .before .before .before .before .loop .inv) (c .before .before .before .before .before .before .before .read-field .ensures) (c .before .before .before .before .before .number .given .1) (c .before .before .before .if1 .left) (let e = sym (c .before .before .ends-line .ensures) ∙ c .before .if2 .left in eqb-false _ _ e))
+loop-less c = after-shorter _ (c .before .before .before .before .before .before .before .before .loop .rest .now) (inside (c .before .before .before .before .before .before .before .before .loop .inv) (c .before .before .before .before .before .before .before .read-field .ensures) (c .before .before .before .before .before .number .given .1) (c .before .before .before .if1 .left) (c .before .if2 .left))
 
 loop-again : tie.Need-loop-again Inv-loop μ-loop
-loop-again c = next-turn (c .before .before .before .before .before .before .before .before .loop .inv) (c .before .before .before .before .before .before .before .read-field .ensures) (c .before .before .before .before .before .number .given .1) (c .before .before .before .if1 .left) (let e = sym (c .before .before .ends-line .ensures) ∙ c .before .if2 .left in eqb-false _ _ e)
+loop-again c = next-turn (c .before .before .before .before .before .before .before .before .loop .inv) (c .before .before .before .before .before .before .before .read-field .ensures) (c .before .before .before .before .before .number .given .1) (c .before .before .before .if1 .left) (c .before .if2 .left)
 
 pub read-fields-spec : {M : Type 1} → statement M
-read-fields-spec = tie.close (tie.spec Inv-loop μ-loop loop-holds read-field-requires enum-known-number enum-told wrong-fields-requires returns wrong-fields-requires-2 returns-2 mul-at array-write-at add-count ends-line-requires add-t18 returns-3 add-b sub-rest part-rest-start part-rest-end add-begins loop-less loop-again)
+read-fields-spec = tie.close (tie.spec Inv-loop μ-loop loop-holds read-field-requires enum-known-number enum-told wrong-fields-requires returns wrong-fields-requires-2 returns-2 mul-at array-write-at add-count add-t17 returns-3 add-b sub-rest part-rest-start part-rest-end add-begins loop-less loop-again)
