@@ -1,6 +1,6 @@
 -- The fault of a fact's line, case by case. Assumes nothing.
 use mathlib.Core.Path.{_≡_, refl, ap, sym, _∙_}
-use mathlib.Core.Bool.{Bool, true, false}
+use mathlib.Core.Bool.{Bool, true, false, cond}
 use mathlib.Core.List.{List}
 use Prim.Native.Nat.{ℕ, _<_, _≤_}
 use native.Mathlib.Omega.{arith}
@@ -45,6 +45,19 @@ module _ (begun held : ℕ) (inside : Bool) (rank : ℕ) where
       go false true false u l e = absurd (omega arith)
       go false true true true l e = absurd (omega arith)
       go false true true false l e = ltb-false largest rank l
+
+-- a fact outside its range has no cell, and a fault
+pub outside-found : (begun rank : ℕ) {f : ℕ} (held : ℕ) (inside : Bool) → inside ≡ false → f ≡ faultOf begun absent false rank → f ≡ faultOf begun (cond inside held absent) inside rank
+outside-found begun rank held true k e = let z : _≡_ {A = ℕ} 0 1 = cc in absurd (omega arith)
+outside-found begun rank held false k e = e
+
+pub outside-some : (begun rank : ℕ) {f : ℕ} → f ≡ faultOf begun absent false rank → f ≡ 0 → ⊥
+unfolding faultOf
+outside-some begun rank e z = go (eqb begun 0) (sym e ∙ z)
+  where
+    go : (t : Bool) → _≡_ {A = ℕ} (pick t 3 4) 0 → ⊥
+    go true e = omega arith
+    go false e = omega arith
 
 -- the fault of what the code found
 pub fault-found : (begun rank : ℕ) {f held held′ : ℕ} {inside inside′ : Bool} → f ≡ faultOf begun held inside rank → held ≡ held′ → inside ≡ inside′
