@@ -28,6 +28,12 @@ pub struct Line {
     pub numbers: Numbers,
 }
 
+// A line and where it ends.
+pub struct LineRead {
+    pub line: Line,
+    pub end: usize,
+}
+
 // Whether the field that s begins with is `spelling`.
 fn spells(s: &[u8], spelling: &[u8]) -> bool
     requires { ⌜ Plain (now spelling) ⌝ }
@@ -125,12 +131,6 @@ fn no_line() -> Line
         word: Word::Malformed,
         numbers,
     }
-}
-
-// A line and where it ends.
-pub struct LineRead {
-    pub line: Line,
-    pub end: usize,
 }
 
 // What the line says that s begins with: one test of the count of its numbers serves every word.
