@@ -4,7 +4,7 @@ ghost use Prim.Native.Nat.{ℕ, _≤_};
 ghost use lib.ListN.{length, getD};
 ghost use Rattle.listing.specs.Reading.{refusedAs, filled, Reads};
 use model::Model;
-use rows::State;
+use table::ABSENT;
 use table::Size;
 
 // The rounds of an accepted listing, or why it is refused and the line.
@@ -56,22 +56,6 @@ fn copy(from: &[u16], to: &mut [u16], n: usize)
     }
 }
 
-fn fill_heads(s: State, heads: &mut [u16], n: usize)
-    requires { ⌜ n ≤ length (now heads) ⌝ }
-    ensures { λ _. ⌜ now (heads .exit) ≡ filled n (s .headcells) (now (heads .entry)) ⌝ }
-{
-    let cells = s.headcells;
-    copy(&cells, heads, n);
-}
-
-fn fill_triples(s: State, triples: &mut [u16], n: usize)
-    requires { ⌜ n ≤ length (now triples) ⌝ }
-    ensures { λ _. ⌜ now (triples .exit) ≡ filled n (s .triplecells) (now (triples .entry)) ⌝ }
-{
-    let cells = s.triplecells;
-    copy(&cells, triples, n);
-}
-
 // The table of a listing, for a model: collected first, and copied into the two arrays where the whole is accepted.
 pub fn read_listing(m: Model, text: &[u8], heads: &mut [u16], triples: &mut [u16]) -> ListingRead
     ensures { λ r. ⌜ Reads m (now (text .entry)) (now (heads .entry)) (now (triples .entry)) (now (heads .exit)) (now (triples .exit)) r ⌝ }
@@ -87,13 +71,15 @@ pub fn read_listing(m: Model, text: &[u8], heads: &mut [u16], triples: &mut [u16
         symbols: m.symbols,
         states: m.states,
     };
-    let r = rows::read_text(size, text);
+    let mut headcells = [ABSENT; 256];
+    let mut triplecells = [ABSENT; 2048];
+    let r = rows::read_text(&mut headcells, &mut triplecells, size, text);
     let number = r.refusal;
     if number != 0 {
         return refused_as(number, r.line);
     }
-    let s = r.state;
-    fill_heads(s, heads, fit.heads);
-    fill_triples(s, triples, fit.triples);
-    ListingRead::Accepted(s.rounds)
+    copy(&headcells, heads, fit.heads);
+    copy(&triplecells, triples, fit.triples);
+    let tally = r.tally;
+    ListingRead::Accepted(tally.rounds)
 }

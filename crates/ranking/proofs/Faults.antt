@@ -1,6 +1,6 @@
 -- The fault of a fact's line, case by case. Assumes nothing.
 use mathlib.Core.Path.{_≡_, refl, ap, sym, _∙_}
-use mathlib.Core.Bool.{Bool, true, false}
+use mathlib.Core.Bool.{Bool, true, false, cond}
 use mathlib.Core.List.{List}
 use Prim.Native.Nat.{ℕ, _<_, _≤_}
 use native.Mathlib.Omega.{arith}
@@ -46,6 +46,19 @@ module _ (begun held : ℕ) (inside : Bool) (rank : ℕ) where
       go false true true true l e = absurd (omega arith)
       go false true true false l e = ltb-false largest rank l
 
+-- a fact outside its range has no cell, and a fault
+pub outside-found : (begun rank : ℕ) {f : ℕ} (held : ℕ) (inside : Bool) → inside ≡ false → f ≡ faultOf begun absent false rank → f ≡ faultOf begun (cond inside held absent) inside rank
+outside-found begun rank held true k e = let z : _≡_ {A = ℕ} 0 1 = cc in absurd (omega arith)
+outside-found begun rank held false k e = e
+
+pub outside-some : (begun rank : ℕ) {f : ℕ} → f ≡ faultOf begun absent false rank → f ≡ 0 → ⊥
+unfolding faultOf
+outside-some begun rank e z = go (eqb begun 0) (sym e ∙ z)
+  where
+    go : (t : Bool) → _≡_ {A = ℕ} (pick t 3 4) 0 → ⊥
+    go true e = omega arith
+    go false e = omega arith
+
 -- the fault of what the code found
 pub fault-found : (begun rank : ℕ) {f held held′ : ℕ} {inside inside′ : Bool} → f ≡ faultOf begun held inside rank → held ≡ held′ → inside ≡ inside′
     → f ≡ faultOf begun held′ inside′ rank
@@ -59,6 +72,10 @@ module _ {before put : List ℕ} {f g : ℕ} (e : f ≡ g) where
   pub is-ranked : f ≡ 0 → {after : List ℕ} → after ≡ put → Ranked before after g put 0
   is-ranked h k = record { answers = sym h ∙ e; leaves = k ∙ rw (← e, eq-eqb _ _ h) }
 
--- without a refusal the rank stands there
-pub ranked-cells : {before after put : List ℕ} {g r : ℕ} → Ranked before after g put r → r ≡ 0 → after ≡ put
-ranked-cells {before} {after} {put} {g} {r} x h = x .leaves ∙ rw (eq-eqb g 0 (sym (x .answers) ∙ h))
+-- without a refusal the rank stands there, and with one nothing changes
+module _ {before after put : List ℕ} {g r : ℕ} (x : Ranked before after g put r) where
+  pub ranked-cells : r ≡ 0 → after ≡ put
+  ranked-cells h = x .leaves ∙ rw (eq-eqb g 0 (sym (x .answers) ∙ h))
+
+  pub unranked-cells : (r ≡ 0 → ⊥) → after ≡ before
+  unranked-cells h = x .leaves ∙ rw (ne-eqb g 0 (λ e. h (x .answers ∙ e)))

@@ -1,5 +1,8 @@
 // The rank that a line of a listing gives to a fact: put into the fact's cell, or refused.
+ghost use mathlib.Core.Bool.{true, false};
 ghost use mathlib.Core.Path.{_≡_};
+ghost use Prim.Native.Nat.{ℕ};
+ghost use Rattle.product.specs.Table.{absent};
 ghost use Rattle.table.specs.Cells.{putHead, putTriple};
 ghost use Rattle.ranking.specs.Rank.{faultOf, headInside, tripleInside, headFault, tripleFault, Ranked};
 use table::ABSENT;
@@ -8,18 +11,25 @@ use table::Size;
 // The largest rank, and the most rounds.
 pub const LARGEST: u32 = 65534;
 
-// Why a line with a fact is refused: out of place or twice before out of range.
-fn fault(begun: u8, held: u16, inside: bool, rank: u32) -> u8
-    ensures { λ r. ⌜ r ≡ faultOf begun held inside rank ⌝ }
+// Why a line with a fact is refused that is outside its range, and so has no cell.
+fn outside(begun: u8) -> u8
+    ensures { λ r. ⌜ ((rank : ℕ) → r ≡ faultOf begun absent false rank) ⌝ }
+{
+    if begun == 0 {
+        return 3;
+    }
+    4
+}
+
+// Why one is that is inside: out of place or twice before out of range.
+fn fault(begun: u8, held: u16, rank: u32) -> u8
+    ensures { λ r. ⌜ r ≡ faultOf begun held true rank ⌝ }
 {
     if begun == 0 {
         return 3;
     }
     if held != ABSENT {
         return 3;
-    }
-    if !inside {
-        return 4;
     }
     if LARGEST < rank {
         return 4;
@@ -49,8 +59,11 @@ fn triple_inside(size: Size, q: u32, g: u32, e: u32) -> bool
 pub fn rank_head(cells: &mut [u16], size: Size, begun: u8, q: u32, g: u32, rank: u32) -> u8
     ensures { λ r. ⌜ Ranked (now (cells .entry)) (now (cells .exit)) (headFault size begun (now (cells .entry)) q g rank) (putHead (size .symbols) (size .states) (now (cells .entry)) q g rank) r ⌝ }
 {
+    if !head_inside(size, q, g) {
+        return outside(begun);
+    }
     let held = table::head_at(cells, size, q as usize, g as usize);
-    let f = fault(begun, held, head_inside(size, q, g), rank);
+    let f = fault(begun, held, rank);
     if f != 0 {
         return f;
     }
@@ -70,8 +83,11 @@ pub fn rank_triple(
 ) -> u8
     ensures { λ r. ⌜ Ranked (now (cells .entry)) (now (cells .exit)) (tripleFault size begun (now (cells .entry)) q g e rank) (putTriple (size .symbols) (size .states) (now (cells .entry)) q g e rank) r ⌝ }
 {
+    if !triple_inside(size, q, g, e) {
+        return outside(begun);
+    }
     let held = table::triple_at(cells, size, q as usize, g as usize, e as usize);
-    let f = fault(begun, held, triple_inside(size, q, g, e), rank);
+    let f = fault(begun, held, rank);
     if f != 0 {
         return f;
     }
