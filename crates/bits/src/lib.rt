@@ -2,16 +2,17 @@
 ghost use mathlib.Core.Path.{_≡_};
 ghost use Rattle.bits.specs.Matrix.{multiplied, image};
 
-// The boolean product of two matrices: one relation, and then the other. Column k of a meets row k of b.
+// The boolean product of two matrices: one relation, and then the other. Column k of a meets row k of b: each byte of the column is 0 or 1, so the
+// numbers' product has the row in the bytes with a 1.
 pub fn product(a: u64, b: u64) -> u64
     ensures { λ r. ⌜ r ≡ multiplied a b ⌝ }
 {
     let mut c: u64 = 0;
     let mut k: u64 = 0;
     while k < 8 {
-        let col = ((a >> k) & 0x0101010101010101) * 255;
-        let row = ((b >> (8 * k)) & 255) * 0x0101010101010101;
-        c = c | (col & row);
+        let col = (a >> k) & 0x0101010101010101;
+        let row = (b >> (8 * k)) & 255;
+        c = c | (col * row);
         k += 1;
     }
     c
