@@ -1,33 +1,32 @@
 -- The boolean product of two matrices, as it is computed: column by column of one against row by row of the other. Assumes nothing.
-use mathlib.Core.Bool.{Bool, true, false, _&&_, _||_}
+use mathlib.Core.Bool.{false, _&&_, _||_}
 use mathlib.Core.Path.{_≡_, refl, sym, ap, ap₂, _∙_, subst}
-use Prim.Native.Nat.{ℕ, zero, suc, _+_, _-_, _*_, _/_, _%_, _^_, _≤_, _<_}
-use native.Mathlib.Nat.{mod-lt, add-mul, mul-right-comm, mul-le-mul, lt-of-le-of-lt, zero-add, zero-mul, one-mul, div-add-mod', div-lt-iff-lt-mul}
+use Prim.Native.Nat.{ℕ, zero, suc, _+_, _*_, _/_, _%_, _^_, _<_}
+use native.Mathlib.Nat.{mod-lt, add-mul, mul-right-comm, mul-le-mul, lt-of-le-of-lt, zero-add, zero-mul, one-mul, suc-mul, div-add-mod', div-lt-iff-lt-mul}
 use native.Mathlib.Omega.{arith}
-use lib.Dec.{T, eqb, ltb, lit<, lit≤}
-use lib.ListN.{getD}
-use mathlib.Core.List.{List}
+use lib.Dec.{eqb, lit<}
 use mir.Syntax.{w64}
 use mir.Val.{Fits}
-use lib.Pow.{pow-pos, split, high, low, mod-mod-pow}
+use lib.Pow.{pow-pos, split, mod-mod-pow}
 use lib.Bits.{bitAnd, bitOr, and-block, and-mask, and-le-r, mask-lt, or-lt}
 use lib.Arith.{digits-div, digits-mod}
-use Rattle.bits.specs.Bit.{odd, bit, word}
-use Rattle.bits.specs.Matrix.{entry, mat, some, multiplied}
-use Rattle.bits.proofs.Bit.{bit-and, bit-or, bit-zero, bit-shr, bit-low, bit-lower, bit-upper, bit-ones, bit-ext, digit-cases, two-pos}
+use Rattle.bits.specs.Bit.{bit}
+use Rattle.bits.specs.Matrix.{entry, some, multiplied}
+use Rattle.bits.proofs.Bit.{bit-or, bit-zero, bit-shr, bit-low, bit-lower, bit-upper, bit-ext, digit-cases, two-pos}
 use Rattle.bits.proofs.Set.{bit-word, word-lt}
 
--- a one in each of m bytes
-unfoldable pub los : ℕ → ℕ
-los zero = 0
-los (suc m) = los m * 2 ^ 8 + 1
+-- a one in each of m digits of n bits
+unfoldable pub ones : (n m : ℕ) → ℕ
+ones n zero = 0
+ones n (suc m) = ones n m * 2 ^ n + 1
 
-pub los-8 : los 8 ≡ 0x0101010101010101
-unfolding los
-los-8 = refl
+pub ones-8 : ones 8 8 ≡ 0x0101010101010101
+unfolding ones
+ones-8 = refl
 
-shift8 : (q e : ℕ) → suc q * 8 + e ≡ (q * 8 + e) + 8
-shift8 q e = omega arith
+-- one digit further
+pub further : (n q e : ℕ) → suc q * n + e ≡ (q * n + e) + n
+further n q e = omega (arith, suc-mul q n)
 
 -- the lowest bit of each byte of a word, times r: r in the bytes whose lowest bit is set
 outer-step : (a l r : ℕ) → bitAnd a (l * 2 ^ 8 + 1) * r ≡ (bitAnd (a / 2 ^ 8) l * r) * 2 ^ 8 + a % 2 * r
@@ -45,16 +44,16 @@ module _ (r : ℕ) (small : r < 2 ^ 8) where
   once : (e d : ℕ) → d < 2 → bit (d * r) e ≡ eqb d 1 && bit r e
   once e = digit-cases (λ d. bit (d * r) e ≡ eqb d 1 && bit r e) (ap (λ n. bit n e) (zero-mul r) ∙ bit-zero e) (ap (λ n. bit n e) (one-mul r))
 
-  outer : (m a q e : ℕ) → q < m → e < 8 → entry (bitAnd a (los m) * r) q e ≡ bit a (q * 8) && bit r e
-  unfolding los bit
+  pub outer : (m a q e : ℕ) → q < m → e < 8 → entry (bitAnd a (ones 8 m) * r) q e ≡ bit a (q * 8) && bit r e
+  unfolding ones bit
   outer zero a q e hq he = absurd (omega arith)
   outer (suc m) a zero e hq he =
-      ap₂ bit (outer-step a (los m) r) (zero-add e)
-      ∙ bit-lower (bitAnd (a / 2 ^ 8) (los m) * r) (a % 2 * r) 8 e (once-lt (a % 2) (mod-lt a two-pos)) he
+      ap₂ bit (outer-step a (ones 8 m) r) (zero-add e)
+      ∙ bit-lower (bitAnd (a / 2 ^ 8) (ones 8 m) * r) (a % 2 * r) 8 e (once-lt (a % 2) (mod-lt a two-pos)) he
       ∙ once e (a % 2) (mod-lt a two-pos)
   outer (suc m) a (suc q) e hq he =
-      ap₂ bit (outer-step a (los m) r) (shift8 q e)
-      ∙ bit-upper (bitAnd (a / 2 ^ 8) (los m) * r) (a % 2 * r) 8 (q * 8 + e) (once-lt (a % 2) (mod-lt a two-pos))
+      ap₂ bit (outer-step a (ones 8 m) r) (further 8 q e)
+      ∙ bit-upper (bitAnd (a / 2 ^ 8) (ones 8 m) * r) (a % 2 * r) 8 (q * 8 + e) (once-lt (a % 2) (mod-lt a two-pos))
       ∙ outer m (a / 2 ^ 8) q e (omega arith) he
       ∙ ap (λ c. c && bit r e) (bit-shr a 8 (q * 8) ∙ ap (bit a) {x = q * 8 + 8} {y = suc q * 8} (omega arith))
 
@@ -73,7 +72,7 @@ row-at b k e he =
 
 met-at : (a b k q e : ℕ) → q < 8 → e < 8 → entry (met a b k) q e ≡ entry a q k && entry b k e
 met-at a b k q e hq he =
-    ap (λ n. entry (bitAnd (a / 2 ^ k) n * bitAnd (b / 2 ^ (8 * k)) 255) q e) (sym los-8)
+    ap (λ n. entry (bitAnd (a / 2 ^ k) n * bitAnd (b / 2 ^ (8 * k)) 255) q e) (sym ones-8)
     ∙ outer (bitAnd (b / 2 ^ (8 * k)) 255) (mask-lt (b / 2 ^ (8 * k)) 8) 8 (a / 2 ^ k) q e hq he
     ∙ ap₂ _&&_ (bit-shr a k (q * 8)) (row-at b k e he)
 
