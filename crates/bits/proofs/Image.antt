@@ -1,94 +1,79 @@
--- Where a matrix leads from a set of states, as it is computed: row by row. Assumes nothing.
-use mathlib.Core.Bool.{Bool, true, false, _&&_, _||_}
-use mathlib.Core.Path.{_≡_, refl, sym, ap, ap₂, _∙_, subst, subst⁻¹}
-use Prim.Native.Nat.{ℕ, zero, suc, _+_, _-_, _*_, _/_, _^_, _<_}
-use native.Mathlib.Nat.{zero-add}
+-- Where a matrix leads from a set of states, as it is computed: the rows that it names, joined. Assumes nothing.
+use mathlib.Core.Bool.{Bool, true, false, cond, _&&_, _||_, or-assoc, or-false}
+use mathlib.Core.Path.{_≡_, refl, sym, ap, ap₂, _∙_}
+use Prim.Native.Nat.{ℕ, zero, suc, _+_, _*_, _/_, _^_, _<_}
+use native.Mathlib.Nat.{add-suc, add-zero, zero-add}
 use native.Mathlib.Omega.{arith}
-use lib.Dec.{T, ltb, ltb→lt}
-use borrow.Author.Tests.{ltb-true, ltb-false, lt-ltb}
 use native.Mathlib.Decide.{decLt}
-use lib.Bits.{bitAnd, bitOr, and-mask, mask-lt, or-lt}
+use lib.Dec.{ltb, ltb→lt}
+use borrow.Author.Tests.{lt-ltb}
+use lib.Bits.{bitAnd, bitOr, and-mask, mask-lt}
 use Rattle.product.proofs.Lists.{and-left, and-right, same-truth}
 use Rattle.bits.specs.Bit.{bit, word}
 use Rattle.bits.specs.Matrix.{some, entry, mat, passed, image}
-use Rattle.bits.proofs.Bit.{bit-or, bit-zero, bit-low, bit-shr, bit-past, bit-ext}
+use Rattle.bits.proofs.Bit.{bit-and, bit-or, bit-low, bit-shr, bit-past, bit-ext}
 use Rattle.bits.proofs.Set.{bit-word, word-lt}
-use Rattle.bits.proofs.Lowest.{lowest}
-use Rattle.bits.proofs.Some.{some-lowest, some-none, some-of, of-some}
 
--- row k of the matrix
-abbrev pub rowOf : ℕ → ℕ → ℕ
-rowOf b k = bitAnd (b / 2 ^ (8 * k)) 255
+or-both : (a b c d : Bool) → (a || b) || (c || d) ≡ (a || c) || (b || d)
+or-both true b c d = refl
+or-both false true true d = refl
+or-both false true false d = refl
+or-both false false c d = refl
 
-unfoldable pub throughAt : (v b x : ℕ) → Bool
-throughAt v b x = some 64 (λ k. bit v k && bit (rowOf b k) x)
+some-more : (n m : ℕ) (f : ℕ → Bool) → some (n + m) f ≡ some n f || some m (λ k. f (n + k))
+some-more n zero f = ap (λ i. some i f) (add-zero n) ∙ sym (or-false (some n f))
+some-more n (suc m) f =
+    ap (λ i. some i f) (add-suc n m) ∙ ap (λ b. b || f (n + m)) (some-more n m f) ∙ or-assoc (some n f) (some m (λ k. f (n + k))) (f (n + m))
 
-or-assoc : (a b c : Bool) → (a || b) || c ≡ a || (b || c)
-or-assoc true b c = refl
-or-assoc false b c = refl
+some-both : (n : ℕ) (f g : ℕ → Bool) → some n f || some n g ≡ some n (λ k. f k || g k)
+some-both zero f g = refl
+some-both (suc n) f g = or-both (some n f) (f n) (some n g) (g n) ∙ ap (λ b. b || (f n || g n)) (some-both n f g)
 
-or-false : (b : Bool) → b || false ≡ b
-or-false true = refl
-or-false false = refl
+some-same : (n : ℕ) (f g : ℕ → Bool) → ((k : ℕ) → k < n → f k ≡ g k) → some n f ≡ some n g
+some-same zero f g e = refl
+some-same (suc n) f g e = ap₂ _||_ (some-same n f g (λ k h. e k (omega arith))) (e n (omega arith))
 
--- what is left joins what is there
-abbrev pub Joins : (v b d r : ℕ) → Type 0
-Joins v b d r = (x : ℕ) → bit r x || throughAt d b x ≡ throughAt v b x
+-- the rows from n on are joined to the first n
+abbrev join : (n c : ℕ) → ℕ
+join n c = bitOr c (c / 2 ^ (8 * n))
 
-pub join-first : (v b : ℕ) → Joins v b v 0
-join-first v b x = ap (λ z. z || throughAt v b x) (bit-zero x)
+half : (n c x : ℕ) → some (n + n) (λ k. entry c k x) ≡ some n (λ k. entry (join n c) k x)
+half n c x =
+    some-more n n (λ k. entry c k x) ∙ some-both n (λ k. entry c k x) (λ k. entry c (n + k) x)
+    ∙ some-same n (λ k. entry c k x || entry c (n + k) x) (λ k. entry (join n c) k x)
+    (λ k _. sym (bit-or c (c / 2 ^ (8 * n)) (k * 8 + x)
+    ∙ ap (λ b. entry c k x || b) (bit-shr c (8 * n) (k * 8 + x) ∙ ap (bit c) {x = (k * 8 + x) + 8 * n} {y = (n + k) * 8 + x} (omega arith))))
 
-pub join-next : (v b d r : ℕ) → 0 < d → d < 2 ^ 64 → Joins v b d r → Joins v b (bitAnd d (d - 1)) (bitOr r (rowOf b (lowest d)))
-unfolding throughAt
-join-next v b d r p h j x =
-    ap (λ z. z || throughAt (bitAnd d (d - 1)) b x) (bit-or r (rowOf b (lowest d)) x)
-    ∙ or-assoc (bit r x) (bit (rowOf b (lowest d)) x) (throughAt (bitAnd d (d - 1)) b x)
-    ∙ ap (λ z. bit r x || z) (sym (some-lowest d p h (λ k. bit (rowOf b k) x)))
-    ∙ j x
-
-join-last : (v b d r : ℕ) → d ≡ 0 → Joins v b d r → (x : ℕ) → bit r x ≡ throughAt v b x
-unfolding throughAt
-join-last v b d r e j x = sym (or-false (bit r x)) ∙ ap (λ z. bit r x || z) (sym (ap (λ n. throughAt n b x) e ∙ some-none 64 (λ k. bit (rowOf b k) x))) ∙ j x
-
--- bit x of row k, where the matrix has one
-row-bit : (b k x : ℕ) → bit (rowOf b k) x ≡ ltb x 8 && entry b k x
-row-bit b k x = go (ltb x 8) refl
+-- what the code computes: eight rows, four, two, one
+pub joined-is : (c : ℕ) → bitAnd (join 1 (join 2 (join 4 c))) 255 ≡ word 8 (λ x. some 8 (λ k. entry c k x))
+joined-is c = bit-ext 8 (bitAnd all 255) (word 8 f) (mask-lt all 8) (word-lt 8 f) same
   where
-    go : (c : Bool) → ltb x 8 ≡ c → bit (rowOf b k) x ≡ c && entry b k x
-    go true h =
-        ap (λ n. bit n x) (and-mask (b / 2 ^ (8 * k)) 8) ∙ bit-low (b / 2 ^ (8 * k)) 8 x (ltb-true x 8 h)
-        ∙ bit-shr b (8 * k) x ∙ ap (bit b) {x = x + 8 * k} {y = k * 8 + x} (omega arith)
-    go false h = bit-past (rowOf b k) 8 x (mask-lt (b / 2 ^ (8 * k)) 8) (ltb-false x 8 h)
+    all : ℕ
+    all = join 1 (join 2 (join 4 c))
 
-low-bit : (v k : ℕ) → bit (bitAnd v 255) k ≡ ltb k 8 && bit v k
-low-bit v k = go (ltb k 8) refl
-  where
-    go : (c : Bool) → ltb k 8 ≡ c → bit (bitAnd v 255) k ≡ c && bit v k
-    go true h = ap (λ n. bit n k) (and-mask v 8) ∙ bit-low v 8 k (ltb-true k 8 h)
-    go false h = bit-past (bitAnd v 255) 8 k (mask-lt v 8) (ltb-false k 8 h)
+    f : ℕ → Bool
+    f x = some 8 (λ k. entry c k x)
 
-pub low-byte : (v : ℕ) → bitAnd v 255 < 2 ^ 8
-low-byte v = mask-lt v 8
+    same : (x : ℕ) → x < 8 → bit (bitAnd all 255) x ≡ bit (word 8 f) x
+    same x h =
+        ap (λ n. bit n x) (and-mask all 8) ∙ bit-low all 8 x h
+        ∙ ap (bit all) (sym (zero-add x))
+        ∙ sym (half 4 c x ∙ half 2 (join 4 c) x ∙ half 1 (join 2 (join 4 c)) x)
+        ∙ sym (bit-word 8 f x h)
 
-pub passed-is : (v b x : ℕ) → throughAt (bitAnd v 255) b x ≡ passed v b x
-unfolding throughAt passed
-passed-is v b x = same-truth (some 64 (λ k. bit (bitAnd v 255) k && bit (rowOf b k) x)) (some 8 (λ k. mat v 0 k && mat b k x)) to from
-  where
-    one : (k : ℕ) → k < 8 → bit (bitAnd v 255) k && bit (rowOf b k) x ≡ mat v 0 k && mat b k x
-    one k l =
-        ap₂ _&&_ (low-bit v k ∙ ap (λ n. ltb k 8 && bit v n) (sym (zero-add k)))
-        (row-bit b k x ∙ ap (λ c. c && ltb x 8 && entry b k x) (sym (lt-ltb k 8 l)))
+word-same : (n : ℕ) (f g : ℕ → Bool) → ((i : ℕ) → i < n → f i ≡ g i) → word n f ≡ word n g
+unfolding word
+word-same zero f g e = refl
+word-same (suc n) f g e = ap₂ (λ b w. cond b (2 ^ n) 0 + w) (e n (omega arith)) (word-same n f g (λ i h. e i (omega arith)))
 
-    to : T (some 64 (λ k. bit (bitAnd v 255) k && bit (rowOf b k) x)) → T (some 8 (λ k. mat v 0 k && mat b k x))
-    to t =
-        let (k, _, u) = of-some 64 (λ k. bit (bitAnd v 255) k && bit (rowOf b k) x) t in
-        let l : k < 8 = ltb→lt k 8 (and-left (ltb k 8) (bit v k) (subst T (low-bit v k) (and-left (bit (bitAnd v 255) k) (bit (rowOf b k) x) u))) in
-        some-of 8 (λ k. mat v 0 k && mat b k x) k l (subst T (one k l) u)
-
-    from : T (some 8 (λ k. mat v 0 k && mat b k x)) → T (some 64 (λ k. bit (bitAnd v 255) k && bit (rowOf b k) x))
-    from t =
-        let (k, l, u) = of-some 8 (λ k. mat v 0 k && mat b k x) t in
-        some-of 64 (λ k. bit (bitAnd v 255) k && bit (rowOf b k) x) k (omega arith) (subst⁻¹ T (one k l) u)
+-- m has row k full where v has state k
+pub through-is : (v b m : ℕ) → ((k x : ℕ) → k < 8 → x < 8 → entry m k x ≡ bit v k) → word 8 (λ x. some 8 (λ k. entry (bitAnd m b) k x)) ≡ image v b
+unfolding image passed
+through-is v b m full =
+    word-same 8 (λ x. some 8 (λ k. entry (bitAnd m b) k x)) (passed v b) (λ x h.
+    some-same 8 (λ k. entry (bitAnd m b) k x) (λ k. mat v 0 k && mat b k x) (λ k l.
+    bit-and m b (k * 8 + x) ∙ ap (λ c. c && entry b k x) (full k x l h ∙ ap (bit v) (sym (zero-add k)))
+    ∙ sym (ap₂ (λ c d. (c && entry v 0 k) && (c && d && entry b k x)) (lt-ltb k 8 l) (lt-ltb x 8 h))))
 
 -- the bits of an image
 pub image-at : (v b x : ℕ) → bit (image v b) x ≡ passed v b x
@@ -108,10 +93,3 @@ image-at v b x = go (decLt x 8)
 pub image-lt : (v b : ℕ) → image v b < 2 ^ 8
 unfolding image
 image-lt v b = word-lt 8 (passed v b)
-
-pub row-joined : (b k r : ℕ) → r < 2 ^ 8 → bitOr r (rowOf b k) < 2 ^ 8
-row-joined b k r h = or-lt 8 r (rowOf b k) h (mask-lt (b / 2 ^ (8 * k)) 8)
-
-pub join-image : (v b d r : ℕ) → d ≡ 0 → r < 2 ^ 8 → Joins (bitAnd v 255) b d r → r ≡ image v b
-join-image v b d r e h j =
-    bit-ext 8 r (image v b) h (image-lt v b) (λ x _. join-last (bitAnd v 255) b d r e j x ∙ passed-is v b x ∙ sym (image-at v b x))

@@ -76,14 +76,6 @@ some-none (suc n) f = rw (some-none n f, bit-zero n)
 pub low64 : (d : ℕ) → 0 < d → d < 2 ^ 64 → lowest d < 64
 low64 d p h = lowest-lt d p h (λ _. true)
 
--- the lowest bit of a byte
-pub low8 : (d : ℕ) → 0 < d → d < 2 ^ 8 → lowest d < 8
-low8 d p h = go (decLt (lowest d) 8)
-  where
-    go : Dec (lowest d < 8) → lowest d < 8
-    go (yes l) = l
-    go (no l) = absurd (subst T (bit-past d 8 (lowest d) h (omega arith)) (lowest-set 64 d p (omega arith)))
-
 -- a number that is not 0 has a bit
 pub below-pow : (n : ℕ) → n < 2 ^ n
 below-pow zero = zero-lt-suc 0

@@ -1,11 +1,11 @@
 -- `bits::product` meets its contract. Assumes nothing.
 use borrow.Author.Needs.{needs}
-use mathlib.Core.Path.{_≡_, refl, ap, _∙_, subst}
+use mathlib.Core.Path.{_≡_, refl, ap, _∙_}
 use Prim.Native.Nat.{_-_, _≤_}
 use native.Mathlib.Numerals.{add-one}
 use native.Mathlib.Omega.{arith}
-use lib.Bits.{bitAnd, bitOr}
-use Rattle.bits.proofs.Matrix.{summed, summed-is, column, row, column-fits, row-fits}
+use lib.Bits.{bitOr}
+use Rattle.bits.proofs.Matrix.{met, met-fits, summed, summed-is}
 use Rattle.bits.proofs.product.Statement.{statement}
 use Rattle.bits.proofs.product.Tie as tie
 
@@ -22,17 +22,14 @@ loop-holds c = (omega arith, refl)
 shr-col : tie.Need-shr-col Inv-loop μ-loop
 shr-col c = search needs
 
-mul-col : tie.Need-mul-col Inv-loop μ-loop
-mul-col c = column-fits (c .before .before .args .a) (c .before .loop .k)
-
 mul-row : tie.Need-mul-row Inv-loop μ-loop
 mul-row c = search needs
 
 shr-row : tie.Need-shr-row Inv-loop μ-loop
 shr-row c = search needs
 
-mul-row-2 : tie.Need-mul-row-2 Inv-loop μ-loop
-mul-row-2 c = row-fits (c .before .before .args .b) (c .before .loop .k)
+mul-c : tie.Need-mul-c Inv-loop μ-loop
+mul-c c = met-fits (c .before .before .args .a) (c .before .before .args .b) (c .before .loop .k)
 
 add-k : tie.Need-add-k Inv-loop μ-loop
 add-k c = search needs
@@ -42,7 +39,7 @@ loop-less c = search needs
 
 loop-again : tie.Need-loop-again Inv-loop μ-loop
 unfolding summed
-loop-again c = (omega arith, rw add-one (ap (λ n. bitOr n (bitAnd (column (c .before .before .args .a) (c .before .loop .k)) (row (c .before .before .args .b) (c .before .loop .k)))) (c .before .loop .inv .1)))
+loop-again c = (omega arith, rw add-one (ap (λ n. bitOr n (met (c .before .before .args .a) (c .before .before .args .b) (c .before .loop .k))) (c .before .loop .inv .1)))
 
 returns : tie.Need-returns Inv-loop μ-loop
 returns c =
@@ -51,4 +48,4 @@ returns c =
 
 pub product-spec : {M : Type 1} → statement M
 product-spec =
-    tie.close (tie.spec Inv-loop μ-loop loop-holds shr-col mul-col mul-row shr-row mul-row-2 add-k loop-less loop-again returns)
+    tie.close (tie.spec Inv-loop μ-loop loop-holds shr-col mul-row shr-row mul-c add-k loop-less loop-again returns)
