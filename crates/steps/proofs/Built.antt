@@ -2,19 +2,16 @@
 use mathlib.Core.Bool.{Bool, true, false, cond, _&&_, _||_}
 use mathlib.Core.List.{List}
 use mathlib.Core.Path.{_≡_, refl, sym, ap, ap₂, _∙_, subst, subst⁻¹}
-use Prim.Native.Nat.{ℕ, zero, suc, _+_, _*_, _/_, _%_, _<_, _≤_, min}
+use Prim.Native.Nat.{ℕ, zero, suc, _+_, _/_, _%_, _<_, _≤_, min}
 use native.Mathlib.Decide.{ℕ-discrete}
-use native.Mathlib.Numerals.{add-one}
 use native.Mathlib.Omega.{arith}
-use lib.Bits.{bitOr}
 use lib.Dec.{T, eqb, ltb, eqb→eq, eqb-refl, ltb→lt, lt→ltb}
 use lib.ListN.{length, getD, set, replicate, length-set}
 use lib.Seq.{getD-set-same, getD-set-other}
-use borrow.Author.Tests.{lt-ltb, le-ltb, eq-eqb, ne-eqb}
+use borrow.Author.Tests.{lt-ltb, le-ltb}
 use Rattle.product.proofs.Lists.{and-left, and-right, both, same-truth}
 use Rattle.bits.specs.Bit.{bit}
 use Rattle.bits.specs.Matrix.{some, image}
-use Rattle.bits.proofs.Bit.{bit-or, bit-zero}
 use Rattle.bits.proofs.Some.{some-of, of-some}
 use Rattle.model.specs.Model.{inRow, moveAt, showsAt}
 use Rattle.steps.specs.Steps.{matrix, classOf, stepBy, stepsBy, stepsOf, classSteps, statesAfter}
@@ -26,37 +23,10 @@ some-alike : (n : ℕ) (f h : ℕ → Bool) → ((i : ℕ) → i < n → f i ≡
 some-alike zero f h k = refl
 some-alike (suc n) f h k = ap₂ _||_ (some-alike n f h (λ i l. k i (omega arith))) (k n (omega arith))
 
--- event by event
+-- those of the first n events
 module _ (on : List ℕ) (shows : List Bool) (g : ℕ) where
   abbrev pub Joined : (n m : ℕ) → Type 0
   Joined n m = (i : ℕ) → bit m i ≡ some n (λ e. showsAt shows g e && bit (getD on e 0) i)
-
-  -- one event, as the code reads it
-  module _ (e : ℕ) where
-    abbrev pub If-shown : ℕ → Type 0
-    If-shown x = x ≡ cond (showsAt shows g e) (getD on e 0) 0
-
-    pub always : e ≡ 0 → If-shown (getD on e 0)
-    always z = ap (λ b. cond (b || getD shows (g * 16 + e) false) (getD on e 0) 0) (sym (eq-eqb e 0 z))
-
-    pub shown-so : (e ≡ 0 → ⊥) → getD shows (g * 16 + e) false ≡ true → If-shown (getD on e 0)
-    shown-so z y = rw (ne-eqb e 0 z, y)
-
-    pub shown-not : (e ≡ 0 → ⊥) → getD shows (g * 16 + e) false ≡ false → If-shown 0
-    shown-not z y = rw (ne-eqb e 0 z, y)
-
-  pub joined-none : Joined 0 0
-  joined-none i = bit-zero i
-
-  pub joined-more : (e m x : ℕ) → Joined e m → x ≡ cond (showsAt shows g e) (getD on e 0) 0 → Joined (e + 1) (bitOr m x)
-  joined-more e m x h is i = rw add-one (bit-or m x i ∙ ap₂ _||_ (h i) (ap (λ n. bit n i) is ∙ go (showsAt shows g e)))
-    where
-      go : (b : Bool) → bit (cond b (getD on e 0) 0) i ≡ b && bit (getD on e 0) i
-      go true = refl
-      go false = bit-zero i
-
-  pub joined-all : (n m : ℕ) → n ≡ 16 → Joined n m → Joined 16 m
-  joined-all n m e h i = h i ∙ ap (λ n. some n (λ e. showsAt shows g e && bit (getD on e 0) i)) e
 
 -- a symbol's steps are the moves of the events that it shows
 module _ (rows : List ℕ) (shows : List Bool) (moves g : ℕ) where

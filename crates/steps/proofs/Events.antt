@@ -39,7 +39,7 @@ alone q x i hq hx = same-truth (eqb (q * 8 + x) i) (ltb i 64 && (eqb q (i / 8) &
         let b : x ≡ i % 8 = eqb→eq x (i % 8) (and-right (eqb q (i / 8)) (eqb x (i % 8)) u) in
         rw (eq-eqb (q * 8 + x) i (omega (arith, div-add-mod' i 8))) tt
 
-or-false : (b : Bool) → b ≡ b || false
+pub or-false : (b : Bool) → b ≡ b || false
 or-false true = refl
 or-false false = refl
 

@@ -1,13 +1,13 @@
 // The steps of each class of rules, as matrices: from which state to which. A rule's class is what its steps do to the property state; with
 // one location that is its symbol.
-ghost use mathlib.Core.Bool.{cond, _&&_};
+ghost use mathlib.Core.Bool.{cond, _&&_, _||_};
 ghost use mathlib.Core.Path.{_≡_};
-ghost use Prim.Native.Nat.{ℕ, _<_, min};
+ghost use Prim.Native.Nat.{ℕ, _+_, _*_, _^_, _<_, _≤_, min};
 ghost use lib.ListN.{getD};
 ghost use Rattle.bits.specs.Bit.{bit};
 ghost use Rattle.bits.specs.Matrix.{some};
 ghost use Rattle.model.specs.Model.{showsAt};
-ghost use Rattle.steps.specs.Events.{eventSteps, withMove};
+ghost use Rattle.steps.specs.Events.{eventSteps, withMove, marks, marked};
 ghost use Rattle.steps.specs.Steps.{classOf, classSteps, statesAfter};
 
 fn wide(x: u8) -> u64
@@ -67,33 +67,54 @@ fn by_event(moverows: &[u8; 384], moves: usize) -> [u64; 16]
     on
 }
 
-// The matrix of event e, if symbol g shows it; every symbol shows event 0.
-fn if_shown<'a>(on: &'a [u64; 16], shows: &'a [bool; 512], g: usize, e: usize) -> u64
-    requires { ⌜ g < 32 ⌝ }
-    requires { ⌜ e < 16 ⌝ }
-    ensures { λ r. ⌜ r ≡ cond (showsAt (now (shows .entry)) g e) (getD (now (on .entry)) e 0) 0 ⌝ }
+// Bit 8 k, if the truth is so: its mark in byte k of a word.
+fn mark(truth: bool, k: usize) -> u64
+    requires { ⌜ k < 8 ⌝ }
+    ensures { λ r. ⌜ r ≡ cond truth (2 ^ (k * 8)) 0 ⌝ }
 {
-    if e == 0 {
-        return on[e];
-    }
-    if shows[g * 16 + e] {
-        return on[e];
+    if truth {
+        return 1u64 << ((k * 8) as u64);
     }
     0
 }
 
-// The matrix of symbol g: those of the events that it shows, joined.
+// The eight truths from number `at` on, a byte each: as they lie in memory, so that the compiler reads them at once.
+fn eight(shows: &[bool; 512], at: usize) -> u64
+    requires { ⌜ at + 8 ≤ 512 ⌝ }
+    ensures { λ w. ⌜ w ≡ marks (now (shows .entry)) at 8 ⌝ }
+{
+    let mut w: u64 = 0;
+    let mut k: usize = 0;
+    while k < 8 {
+        w = w | mark(shows[at + k], k);
+        k += 1;
+    }
+    w
+}
+
+// m with the matrices of the events that are marked in w, whose first byte is that of event `from`.
+fn join(on: &[u64; 16], from: usize, w: u64, m: u64) -> u64
+    requires { ⌜ from + 8 ≤ 16 ⌝ }
+    ensures { λ r. ⌜ ((i : ℕ) → bit r i ≡ bit m i || marked (now (on .entry)) from w i) ⌝ }
+{
+    let mut d = w;
+    let mut r = m;
+    while d != 0 {
+        let e = u64::trailing_zeros(d) as usize / 8;
+        d = d & (d - 1);
+        r = r | on[from + e];
+    }
+    r
+}
+
+// The matrix of symbol g: those of the events that it shows, joined; every symbol shows event 0.
 fn symbol_steps<'a>(on: &'a [u64; 16], shows: &'a [bool; 512], g: usize) -> u64
     requires { ⌜ g < 32 ⌝ }
     ensures { λ r. ⌜ ((i : ℕ) → bit r i ≡ some 16 (λ e. showsAt (now (shows .entry)) g e && bit (getD (now (on .entry)) e 0) i)) ⌝ }
 {
-    let mut m: u64 = 0;
-    let mut e: usize = 0;
-    while e < 16 {
-        m = m | if_shown(on, shows, g, e);
-        e += 1;
-    }
-    m
+    let at = g * 16;
+    let m = join(on, 0, eight(shows, at), on[0]);
+    join(on, 8, eight(shows, at + 8), m)
 }
 
 // For each class of rules the matrix of its steps.

@@ -1,41 +1,45 @@
--- `steps::symbol_steps` meets its contract. The loop's invariant: the events before e are joined. Assumes nothing.
-use Prim.Native.Nat.{_≤_, _-_}
-use native.Mathlib.Omega.{arith}
+-- `steps::symbol_steps` meets its contract. Assumes nothing.
 use denote.Ref.{now}
 use borrow.Author.Needs.{needs}
-use Rattle.steps.proofs.Built.{Joined, joined-none, joined-more, joined-all}
+use Rattle.steps.proofs.Marks.{joined-shown}
 use Rattle.steps.proofs.symbol_steps.Statement.{statement}
 use Rattle.steps.proofs.symbol_steps.Tie as tie
 
-abbrev Inv-loop : tie.InvT-loop
-Inv-loop on shows g m₀ e₀ m e = (e ≤ 16) × Joined on shows g e m
+mul-at : tie.Need-mul-at
+mul-at c = search needs
 
-abbrev μ-loop : tie.MeasureT-loop
-μ-loop on shows g m₀ e₀ m e = 16 - e
+eight-requires : tie.Need-eight-requires
+eight-requires c κs = search needs
 
-loop-holds : tie.Need-loop-holds Inv-loop μ-loop
-loop-holds c = (omega arith, joined-none (now (c .args .on)) (now (c .args .shows)) (c .args .g))
+element-copy-out-join : tie.Need-element-copy-out-join
+element-copy-out-join c = search needs
 
-if-shown-requires : tie.Need-if-shown-requires Inv-loop μ-loop
-if-shown-requires c κs = search needs
+join-requires : tie.Need-join-requires
+join-requires c κs = search needs
 
-add-e : tie.Need-add-e Inv-loop μ-loop
-add-e c = search needs
+add-eight : tie.Need-add-eight
+add-eight c = search needs
 
-loop-less : tie.Need-loop-less Inv-loop μ-loop
-loop-less c = search needs
+eight-requires-2 : tie.Need-eight-requires-2
+eight-requires-2 c κs = search needs
 
-loop-again : tie.Need-loop-again Inv-loop μ-loop
-loop-again c =
-    let a = c .before .before .before .args in
-    (omega arith, joined-more (now (a .on)) (now (a .shows)) (a .g) (c .before .before .loop .e) (c .before .before .loop .m) _ (c .before .before .loop .inv .1) (c .if-shown .ensures))
+join-requires-2 : tie.Need-join-requires-2
+join-requires-2 c κs = search needs
 
-returns : tie.Need-returns Inv-loop μ-loop
+returns : tie.Need-returns
 returns c =
-    let a = c .before .before .args in
-    joined-all (now (a .on)) (now (a .shows)) (a .g) (c .before .loop .e) (c .before .loop .m) (omega arith) (c .before .loop .inv .1)
+    let a = c .before .before .before .before .before .args in
+    joined-shown (now (a .on)) (now (a .shows)) (a .g) _ _ (c .before .before .before .before .eight .ensures) (c .before .eight2 .ensures) (c .before .before .join .ensures) (c .join2 .ensures)
 
 pub symbol-steps-spec : {M : Type 1} → statement M
 symbol-steps-spec =
     tie.close
-    (tie.spec Inv-loop μ-loop loop-holds if-shown-requires add-e loop-less loop-again returns)
+    (tie.spec
+    mul-at
+    eight-requires
+    element-copy-out-join
+    join-requires
+    add-eight
+    eight-requires-2
+    join-requires-2
+    returns)
