@@ -98,11 +98,6 @@ bit-ones zero i h = absurd (omega arith)
 bit-ones (suc k) zero h = ap odd (ones-suc k) ∙ ap (λ n. eqb n 1) (digits-mod (2 ^ k - 1) (lit< tt))
 bit-ones (suc k) (suc i) h = ap (λ n. bit (n / 2) i) (ones-suc k) ∙ ap (λ n. bit n i) (digits-div (2 ^ k - 1) (lit< tt)) ∙ bit-ones k i (omega arith)
 
--- how the code tests one
-pub bit-is : (x i : ℕ) → eqb (x / 2 ^ i % 2) 1 ≡ bit x i
-unfolding bit
-bit-is x i = bit-shr x i 0 ∙ ap (bit x) (zero-add i)
-
 -- two numbers with the same bits are equal
 pub bit-ext : (k x y : ℕ) → x < 2 ^ k → y < 2 ^ k → ((i : ℕ) → i < k → bit x i ≡ bit y i) → x ≡ y
 unfolding bit

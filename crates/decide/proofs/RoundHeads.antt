@@ -66,11 +66,11 @@ module _ (p : Product) (R : InRange p) (Q : ℕ) (rs sy tg : List ℕ) (F : Fram
         (λ k _. ap (λ b. b && mats tg (classAt rs r) k x) (heads-are (symbolAt sy (classAt rs r)) k))
         ∙ some-states (λ k. h (head k (symbolAt sy (classAt rs r))) && mats tg (classAt rs r) k x)
         (λ k t. F .steps-in (classAt rs r) k x (and-right (h (head k (symbolAt sy (classAt rs r)))) (mats tg (classAt rs r) k x) t) .0)
-        ∙ sym (lands-by p 256 (classAt rs) (symbolAt sy) (mats tg) (classes-are p R Q rs sy tg F) (λ _. true) (λ _. true) h r x l)
+        ∙ sym (lands-by p 256 (classAt rs) (symbolAt sy) (mats tg) (classes-are p R Q rs sy tg F) h r x l)
 
     lands-lt : (r x : ℕ) → r < p .rules → T (lands p h r x) → x < Q
     lands-lt r x l t =
-        let t′ = subst T (lands-by p 256 (classAt rs) (symbolAt sy) (mats tg) (classes-are p R Q rs sy tg F) (λ _. true) (λ _. true) h r x l) t in
+        let t′ = subst T (lands-by p 256 (classAt rs) (symbolAt sy) (mats tg) (classes-are p R Q rs sy tg F) h r x l) t in
         let (k, _, u) = Lists.some-of (λ k. h (head k (symbolAt sy (classAt rs r))) && mats tg (classAt rs r) k x) (p .states) t′ in
         F .steps-in (classAt rs r) k x (and-right (h (head k (symbolAt sy (classAt rs r)))) (mats tg (classAt rs r) k x) u) .1
 
