@@ -87,6 +87,7 @@ each-answer = record {
   rank-head = λ z begun cells q g rank. ranked cells _ _;
   rank-triple = λ z begun cells q g e rank. ranked cells _ _;
   read-text = λ z heads triples text. parted endOf (λ x. refl) _;
+  listing-at = λ text. equal _;
   listing-of = λ text. equal _;
   model-part = λ text. equal _;
   place = λ n at. equal _;

@@ -39,6 +39,7 @@ use Rattle.rows.specs.declared.End.{End}
 use Rattle.rows.specs.State.{before, ended}
 use Rattle.rows.specs.Lines.{readText}
 use Rattle.splitter.specs.Part.{listingOf, modelPart}
+use Rattle.splitter.specs.Part as part
 use Rattle.print.specs.Bytes.{fieldBytes, lineBytes, namedBytes}
 use Rattle.text.specs.Put.{placeIn, Put}
 use Rattle.kept.specs.Kept.{inTable, nextKept}
@@ -105,6 +106,7 @@ pub record OneAnswer : Type 0 where
       → Both (λ r after. Ranked cells after (tripleFault z begun cells q g e rank) (putTriple (z .symbols) (z .states) cells q g e rank) r)
   pub read-text : (z : Size) (heads triples text : List ℕ) → One {A = End × List ℕ × List ℕ} (λ x. ended (x .0) (x .1) (x .2) ≡ readText z (before heads triples) text)
   -- splitter
+  pub listing-at : (text : List ℕ) → One (λ r. r ≡ part.place text)
   pub listing-of : (text : List ℕ) → One (λ part. part ≡ listingOf text)
   pub model-part : (text : List ℕ) → One (λ part. part ≡ modelPart text)
   -- print
