@@ -2,9 +2,9 @@
 // digits and no leading zero. Nothing here knows what the numbers mean.
 ghost use mathlib.Core.Path.{_≡_};
 ghost use Prim.Native.Nat.{ℕ, _+_, _<_, _≤_};
-ghost use lib.ListN.{length};
+ghost use lib.ListN.{length, getD};
 ghost use Rattle.text.specs.Split.{first};
-ghost use Rattle.numbers.specs.Number.{wrong};
+ghost use Rattle.numbers.specs.Number.{written, wrong};
 ghost use Rattle.numbers.specs.Field.{field, Begins, fieldBy, fieldOf, fieldsBy, fieldsOf};
 ghost use Rattle.numbers.specs.declared.Number.the-variants.{Bad};
 ghost use Rattle.numbers.specs.Digits.{front, digitsOf};
@@ -66,7 +66,7 @@ fn read_digits(s: &[u8]) -> Run
         if b'9' < b {
             return Run { count, value };
         }
-        value = value * 10 + (b - b'0') as u32;
+        value = value * 10 + (b as u32 - b'0' as u32);
         count += 1;
     }
     Run { count, value }
@@ -82,30 +82,44 @@ fn no_field() -> FieldRead
     }
 }
 
+// Whether so many digits, the first those of s, write a number: one to five, and no leading zero.
+fn well_written(s: &[u8], digits: usize) -> bool
+    requires { ⌜ digits ≤ length (now s) ⌝ }
+    ensures { λ r. ⌜ r ≡ written digits (getD (now (s .entry)) 0 0) ⌝ }
+{
+    if digits == 1 {
+        return true;
+    }
+    if digits == 0 {
+        return false;
+    }
+    if 5 < digits {
+        return false;
+    }
+    if s[0] == b'0' {
+        return false;
+    }
+    true
+}
+
 // The number of the field that s begins with.
 fn read_field(s: &[u8]) -> FieldRead
     ensures { λ r. ⌜ r ≡ fieldOf (now (s .entry)) ⌝ }
 {
     let run = read_digits(s);
     let end = run.count;
-    if 5 < end {
+    if !well_written(s, end) {
         return no_field();
     }
     let stop = text::byte_at(s, end);
     if !text::is_stop(stop) {
         return no_field();
     }
-    if end == 0 {
-        return no_field();
+    FieldRead {
+        number: Number::Is(run.value),
+        end,
+        stop,
     }
-    let number = Number::Is(run.value);
-    if end == 1 {
-        return FieldRead { number, end, stop };
-    }
-    if s[0] == b'0' {
-        return no_field();
-    }
-    FieldRead { number, end, stop }
 }
 
 // A line whose fields are wrong.
@@ -128,7 +142,6 @@ pub fn read_fields(s: &[u8]) -> FieldsRead
 {
     let mut count: usize = 0;
     let mut at = [0u32; MOST];
-    let mut begins: usize = 0;
     let mut rest = s;
     loop {
         let f = read_field(rest);
@@ -146,12 +159,11 @@ pub fn read_fields(s: &[u8]) -> FieldsRead
             let numbers = Numbers { count, at };
             return FieldsRead {
                 numbers,
-                end: begins + e,
+                end: s.len() - rest.len() + e,
             };
         }
         let b = e + 1;
         rest = &rest[b..];
-        begins += b;
     }
 }
 

@@ -38,6 +38,12 @@ mul-value c = let l = c .before .before .before .before .before .loop in let s =
 cast-value : tie.Need-cast-value Inv-loop μ-loop
 cast-value c = omega arith
 
+cast-value-2 : tie.Need-cast-value-2 Inv-loop μ-loop
+cast-value-2 c = search needs
+
+sub-value : tie.Need-sub-value Inv-loop μ-loop
+sub-value c = omega arith
+
 add-value : tie.Need-add-value Inv-loop μ-loop
 add-value c = let l = c .before .before .before .before .before .loop in let s = c .before .before .before .before .before .before .args .s .now in omega (arith, small (l .count) (l .value) (omega arith) (l .inv .2))
 
@@ -54,4 +60,4 @@ returns-4 : tie.Need-returns-4 Inv-loop μ-loop
 returns-4 c = let l = c .before .loop in record { within = l .inv .0; reads = l .inv .3; long = l .inv .4; stops = λ a b d e. omega arith }
 
 pub read-digits-spec : {M : Type 1} → statement M
-read-digits-spec = tie.close (tie.spec Inv-loop μ-loop loop-holds returns shared-slice-read-b returns-2 returns-3 mul-value cast-value add-value add-count loop-less loop-again returns-4)
+read-digits-spec = tie.close (tie.spec Inv-loop μ-loop loop-holds returns shared-slice-read-b returns-2 returns-3 mul-value cast-value cast-value-2 sub-value add-value add-count loop-less loop-again returns-4)
