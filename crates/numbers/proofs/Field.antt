@@ -101,7 +101,7 @@ written-few n b = go (eqb n 1) (eqb n 0) (ltb 5 n) refl refl refl
     go false false true p q r e = let z : _≡_ {A = ℕ} 0 1 = cc in absurd (omega arith)
     go false false false p q r e = ltb-false 5 n r
 
-module _ (s : List ℕ) {v i : ℕ} (g : Begins s v i) where
+module _ (s : List ℕ) {v i b : ℕ} (g : Begins s v i b) where
   too-many : 5 < i → numberOf (field s) ≡ Bad
   unfolding numberOf
   too-many h = rw (ne-eqb (length (field s)) 0 (λ e. omega (arith, g .long)), lt-ltb 5 (length (field s)) (omega (arith, g .long)))
@@ -136,14 +136,17 @@ module _ (s : List ℕ) {v i : ℕ} (g : Begins s v i) where
       go false true p q = number-written (field s) ∙ rw (written-is (eqb-true _ 0 q), w)
       go false false p q = no-stop (ltb-false 5 i p) (eqb-false _ 0 q)
 
-  module _ (w : written i (getD s 0 0) ≡ true) {b : ℕ} (stop : b ≡ getD s i 10) where
-    pub not-ended : (eqb b 9 || eqb b 10) ≡ false → {f : FieldRead} → f ≡ fieldBy Bad 0 0 → f ≡ fieldOf s
-    not-ended on = no-number s (no-stop (written-few i (getD s 0 0) w) (eqb-false _ 0 (sym (either-stop 9 10 s i) ∙ sym (ap (λ x. eqb x 9 || eqb x 10) stop) ∙ on)))
+  module _ (w : written i (getD s 0 0) ≡ true) where
+    empty : eqb (length (field (drop i s))) 0 ≡ (eqb b 9 || eqb b 10)
+    empty = sym (either-stop 9 10 s i) ∙ sym (ap (λ x. eqb x 9 || eqb x 10) (g .next))
 
-    pub ended : (eqb b 9 || eqb b 10) ≡ true → fieldBy (Is v) i b ≡ fieldOf s
-    ended stopped =
-        let none = eqb-true _ 0 (sym (either-stop 9 10 s i) ∙ sym (ap (λ x. eqb x 9 || eqb x 10) stop) ∙ stopped) in
-        is-number s v stop (number-written (field s) ∙ rw (written-is none, w) (spelled-is none)) (length-is none)
+    pub not-ended : (b ≡ 10 → ⊥) → (b ≡ 9 → ⊥) → {f : FieldRead} → f ≡ fieldBy Bad 0 0 → f ≡ fieldOf s
+    not-ended h k = no-number s (no-stop (written-few i (getD s 0 0) w) (eqb-false _ 0 (empty ∙ rw (ne-eqb b 9 k, ne-eqb b 10 h))))
+
+    pub ended : (k : ℕ) → b ≡ k → (eqb k 9 || eqb k 10) ≡ true → fieldBy (Is v) i k ≡ fieldOf s
+    ended k e stopped =
+        let none = eqb-true _ 0 (empty ∙ ap (λ x. eqb x 9 || eqb x 10) e ∙ stopped) in
+        is-number s v (sym e ∙ g .next) (number-written (field s) ∙ rw (written-is none, w) (spelled-is none)) (length-is none)
 
 -- a field that was read
 pub record Whole (s : List ℕ) (f : FieldRead) (v : ℕ) : Type 0 where

@@ -25,10 +25,11 @@ struct FieldRead {
     stop: u8,
 }
 
-// The digits that a text begins with: how many, six at the most, and the number that they write.
+// The digits that a text begins with: how many, six at the most, the number that they write, and the byte behind them.
 struct Run {
     count: usize,
     value: u32,
+    stop: u8,
 }
 
 // The numbers of a run of fields, zeros after them; a count of 0 where the fields are wrong.
@@ -51,25 +52,29 @@ pub struct Digits {
 
 // The digits that s begins with: a sixth is one too many, and none is looked for after it.
 fn read_digits(s: &[u8]) -> Run
-    ensures { λ r. ⌜ Begins (now (s .entry)) (r .value) (r .count) ⌝ }
+    ensures { λ r. ⌜ Begins (now (s .entry)) (r .value) (r .count) (r .stop) ⌝ }
 {
     let mut value: u32 = 0;
     let mut count: usize = 0;
     while count < s.len() {
+        let stop = s[count];
         if 5 < count {
-            return Run { count, value };
+            return Run { count, value, stop };
         }
-        let b = s[count];
-        if b < b'0' {
-            return Run { count, value };
+        if stop < b'0' {
+            return Run { count, value, stop };
         }
-        if b'9' < b {
-            return Run { count, value };
+        if b'9' < stop {
+            return Run { count, value, stop };
         }
-        value = value * 10 + (b as u32 - b'0' as u32);
+        value = value * 10 + (stop as u32 - b'0' as u32);
         count += 1;
     }
-    Run { count, value }
+    Run {
+        count,
+        value,
+        stop: b'\n',
+    }
 }
 
 fn no_field() -> FieldRead
@@ -111,14 +116,22 @@ fn read_field(s: &[u8]) -> FieldRead
     if !well_written(s, end) {
         return no_field();
     }
-    let stop = text::byte_at(s, end);
-    if !text::is_stop(stop) {
+    let number = Number::Is(run.value);
+    let stop = run.stop;
+    if stop == b'\n' {
+        return FieldRead {
+            number,
+            end,
+            stop: b'\n',
+        };
+    }
+    if stop != b'\t' {
         return no_field();
     }
     FieldRead {
-        number: Number::Is(run.value),
+        number,
         end,
-        stop,
+        stop: b'\t',
     }
 }
 
