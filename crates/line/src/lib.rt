@@ -62,7 +62,7 @@ fn if_spelled(s: &[u8], spelling: &[u8], w: Word, other: Word) -> Word
 }
 
 // The word that s begins with, found from the last of the words to the first.
-fn word_of(s: &[u8]) -> Word
+fn any_word(s: &[u8]) -> Word
     ensures { λ r. ⌜ r ≡ wordOf (field (now (s .entry))) ⌝ }
 {
     let mut w = Word::Malformed;
@@ -78,6 +78,22 @@ fn word_of(s: &[u8]) -> Word
     w = if_spelled(s, b"start", Word::Start, w);
     w = if_spelled(s, b"size", Word::Size, w);
     w
+}
+
+// The same. Nearly all lines of a listing begin with one of two words: these are looked for first, where no byte of them is past the end.
+fn word_of(s: &[u8]) -> Word
+    ensures { λ r. ⌜ r ≡ wordOf (field (now (s .entry))) ⌝ }
+{
+    if s.len() < 6 {
+        return any_word(s);
+    }
+    if spells(s, b"erase") {
+        return Word::Erase;
+    }
+    if spells(s, b"head") {
+        return Word::Head;
+    }
+    any_word(s)
 }
 
 // How many letters a word has.

@@ -11,7 +11,7 @@ use borrow.Author.Tests.{lt-ltb, le-ltb, eq-eqb, ne-eqb, eqb-true, eqb-false, lt
 use Rattle.text.specs.Split.{pick, first}
 use Rattle.text.proofs.Split.{first-take, place-within}
 use Rattle.text.proofs.Stops.{either-a, either-b, either-next, either-end, either-stop}
-use Rattle.numbers.specs.Number.{spelled, numberOf}
+use Rattle.numbers.specs.Number.{spelled, numberOf, written}
 use Rattle.numbers.specs.Field.{field, Begins, fieldBy, fieldOf}
 use Rattle.numbers.specs.declared.Number.{Number}
 use Rattle.numbers.specs.declared.Number.the-variants.{Is, Bad}
@@ -77,20 +77,39 @@ module _ (s : List ℕ) where
   is-number : (v : ℕ) {i b : ℕ} → b ≡ getD s i 10 → numberOf (field s) ≡ Is v → length (field s) ≡ i → fieldBy (Is v) i b ≡ fieldOf s
   is-number v p e l = rw (e, l, p)
 
-module _ (s : List ℕ) {v i : ℕ} (g : Begins s v i) where
-  pub too-many : 5 < i → {f : FieldRead} → f ≡ fieldBy Bad 0 0 → f ≡ fieldOf s
+-- a field's number by how many digits it has, and the first
+number-written : (f : List ℕ) → numberOf f ≡ pick (written (length f) (getD f 0 0)) (spelled 0 f) Bad
+unfolding numberOf
+number-written f = go (length f) (eqb (length f) 0) (ltb 5 (length f)) (eqb (length f) 1) (eqb (getD f 0 0) 48) refl refl refl
+  where
+    go : (n : ℕ) (x y z u : Bool) → eqb n 0 ≡ x → ltb 5 n ≡ y → eqb n 1 ≡ z
+        → pick x Bad (pick y Bad (pick z (spelled 0 f) (pick u Bad (spelled 0 f)))) ≡ pick (pick z true (pick x false (pick y false (pick u false true)))) (spelled 0 f) Bad
+    go n true y true u p q r = absurd (omega (arith, eqb-true n 0 p, eqb-true n 1 r))
+    go n true y false u p q r = refl
+    go n false true true u p q r = absurd (omega (arith, ltb-true 5 n q, eqb-true n 1 r))
+    go n false true false u p q r = refl
+    go n false false true u p q r = refl
+    go n false false false true p q r = refl
+    go n false false false false p q r = refl
+
+written-few : (n b : ℕ) → written n b ≡ true → n ≤ 5
+written-few n b = go (eqb n 1) (eqb n 0) (ltb 5 n) refl refl refl
+  where
+    go : (z x y : Bool) → eqb n 1 ≡ z → eqb n 0 ≡ x → ltb 5 n ≡ y → pick z true (pick x false (pick y false (pick (eqb b 48) false true))) ≡ true → n ≤ 5
+    go true x y p q r e = omega (arith, eqb-true n 1 p)
+    go false true y p q r e = omega (arith, eqb-true n 0 q)
+    go false false true p q r e = let z : _≡_ {A = ℕ} 0 1 = cc in absurd (omega arith)
+    go false false false p q r e = ltb-false 5 n r
+
+module _ (s : List ℕ) {v i b : ℕ} (g : Begins s v i b) where
+  too-many : 5 < i → numberOf (field s) ≡ Bad
   unfolding numberOf
-  too-many h = no-number s (rw (ne-eqb (length (field s)) 0 (λ e. omega (arith, g .long)), lt-ltb 5 (length (field s)) (omega (arith, g .long))))
+  too-many h = rw (ne-eqb (length (field s)) 0 (λ e. omega (arith, g .long)), lt-ltb 5 (length (field s)) (omega (arith, g .long)))
 
-  pub not-ended : i ≤ 5 → {b : ℕ} → b ≡ getD s i 10 → (eqb b 9 || eqb b 10) ≡ false → {f : FieldRead} → f ≡ fieldBy Bad 0 0 → f ≡ fieldOf s
-  not-ended h stop on =
-      let some = eqb-false (length (field (drop i s))) 0 (sym (either-stop 9 10 s i) ∙ sym (ap (λ x. eqb x 9 || eqb x 10) stop) ∙ on) in
-      no-number s (unspelled (field s) (sym (g .reads) ∙ other-reads v i s some (g .stops h)))
+  no-stop : i ≤ 5 → (length (field (drop i s)) ≡ 0 → ⊥) → numberOf (field s) ≡ Bad
+  no-stop h some = unspelled (field s) (sym (g .reads) ∙ other-reads v i s some (g .stops h))
 
-  module _ (h : i ≤ 5) {b : ℕ} (stop : b ≡ getD s i 10) (stopped : (eqb b 9 || eqb b 10) ≡ true) where
-    none : length (field (drop i s)) ≡ 0
-    none = eqb-true _ 0 (sym (either-stop 9 10 s i) ∙ sym (ap (λ x. eqb x 9 || eqb x 10) stop) ∙ stopped)
-
+  module _ (none : length (field (drop i s)) ≡ 0) where
     length-is : length (field s) ≡ i
     length-is = omega (arith, g .long, none)
 
@@ -102,33 +121,32 @@ module _ (s : List ℕ) {v i : ℕ} (g : Begins s v i) where
         go [] e = refl
         go (b ∷ f) e = absurd (omega arith)
 
-    pub no-digit : i ≡ 0 → {f : FieldRead} → f ≡ fieldBy Bad 0 0 → f ≡ fieldOf s
-    unfolding numberOf
-    no-digit z = no-number s (rw (eq-eqb (length (field s)) 0 (length-is ∙ z)))
+    written-is : written (length (field s)) (getD (field s) 0 0) ≡ written i (getD s 0 0)
+    written-is = rw length-is (go (eqb i 0) refl)
+      where
+        go : (t : Bool) → eqb i 0 ≡ t → written i (getD (field s) 0 0) ≡ written i (getD s 0 0)
+        go true e = rw (eqb-true i 0 e)
+        go false e = ap (written i) (first-byte s (let n = eqb-false i 0 e in omega (arith, length-is)))
 
-    pub one-digit : i ≡ 1 → fieldBy (Is v) i b ≡ fieldOf s
-    unfolding numberOf
-    one-digit o =
-        is-number s v stop
-        (rw (ne-eqb (length (field s)) 0 (λ e. omega (arith, length-is)), le-ltb 5 (length (field s)) (omega (arith, length-is)), eq-eqb (length (field s)) 1 (length-is ∙ o)) spelled-is)
-        length-is
+  pub ill-written : written i (getD s 0 0) ≡ false → {f : FieldRead} → f ≡ fieldBy Bad 0 0 → f ≡ fieldOf s
+  ill-written w = no-number s (go (ltb 5 i) (eqb (length (field (drop i s))) 0) refl refl)
+    where
+      go : (x y : Bool) → ltb 5 i ≡ x → eqb (length (field (drop i s))) 0 ≡ y → numberOf (field s) ≡ Bad
+      go true y p q = too-many (ltb-true 5 i p)
+      go false true p q = number-written (field s) ∙ rw (written-is (eqb-true _ 0 q), w)
+      go false false p q = no-stop (ltb-false 5 i p) (eqb-false _ 0 q)
 
-    module _ (z : i ≡ 0 → ⊥) (o : i ≡ 1 → ⊥) where
-      byte : getD (field s) 0 0 ≡ getD s 0 0
-      byte = first-byte s (omega (arith, length-is))
+  module _ (w : written i (getD s 0 0) ≡ true) where
+    empty : eqb (length (field (drop i s))) 0 ≡ (eqb b 9 || eqb b 10)
+    empty = sym (either-stop 9 10 s i) ∙ sym (ap (λ x. eqb x 9 || eqb x 10) (g .next))
 
-      pub leading-zero : getD s 0 0 ≡ 48 → {f : FieldRead} → f ≡ fieldBy Bad 0 0 → f ≡ fieldOf s
-      unfolding numberOf
-      leading-zero e =
-          no-number s
-          (rw (ne-eqb (length (field s)) 0 (λ e. omega (arith, length-is)), le-ltb 5 (length (field s)) (omega (arith, length-is)), ne-eqb (length (field s)) 1 (λ e. omega (arith, length-is)), eq-eqb (getD (field s) 0 0) 48 (byte ∙ e)))
+    pub not-ended : (b ≡ 10 → ⊥) → (b ≡ 9 → ⊥) → {f : FieldRead} → f ≡ fieldBy Bad 0 0 → f ≡ fieldOf s
+    not-ended h k = no-number s (no-stop (written-few i (getD s 0 0) w) (eqb-false _ 0 (empty ∙ rw (ne-eqb b 9 k, ne-eqb b 10 h))))
 
-      pub more-digits : (getD s 0 0 ≡ 48 → ⊥) → fieldBy (Is v) i b ≡ fieldOf s
-      unfolding numberOf
-      more-digits e =
-          is-number s v stop
-          (rw (ne-eqb (length (field s)) 0 (λ e. omega (arith, length-is)), le-ltb 5 (length (field s)) (omega (arith, length-is)), ne-eqb (length (field s)) 1 (λ e. omega (arith, length-is)), ne-eqb (getD (field s) 0 0) 48 (λ k. e (sym byte ∙ k))) spelled-is)
-          length-is
+    pub ended : (k : ℕ) → b ≡ k → (eqb k 9 || eqb k 10) ≡ true → fieldBy (Is v) i k ≡ fieldOf s
+    ended k e stopped =
+        let none = eqb-true _ 0 (empty ∙ ap (λ x. eqb x 9 || eqb x 10) e ∙ stopped) in
+        is-number s v (sym e ∙ g .next) (number-written (field s) ∙ rw (written-is none, w) (spelled-is none)) (length-is none)
 
 -- a field that was read
 pub record Whole (s : List ℕ) (f : FieldRead) (v : ℕ) : Type 0 where

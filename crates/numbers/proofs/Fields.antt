@@ -2,7 +2,7 @@
 use mathlib.Core.Path.{_≡_, refl, ap, sym, _∙_}
 use mathlib.Core.Bool.{Bool, true, false}
 use mathlib.Core.List.{List, [], _∷_}
-use Prim.Native.Nat.{ℕ, _+_, _<_, _≤_}
+use Prim.Native.Nat.{ℕ, _+_, _-_, _<_, _≤_}
 use native.Mathlib.Omega.{arith}
 use lib.Dec.{ltb, eqb}
 use lib.ListN.{length, getD, set, length-drop}
@@ -48,20 +48,20 @@ module _ (n : Numbers) (f : List ℕ) where
       go false e = refl
 
 -- the loop's invariant: the numbers so far and the fields of what is left of the line make the numbers of all
-pub record Turn (s : List ℕ) (n : Numbers) (begins : ℕ) (rest : List ℕ) : Type 0 where
+pub record Turn (s : List ℕ) (n : Numbers) (rest : List ℕ) : Type 0 where
   pub left : numbersFrom n (split 9 (first 10 rest)) ≡ numbersOf (split 9 (first 10 s))
-  pub ends : begins + length (first 10 rest) ≡ length (first 10 s)
-  pub fits : begins + length rest ≤ length s
+  pub ends : length s - length rest + length (first 10 rest) ≡ length (first 10 s)
+  pub fits : length rest ≤ length s
 
 -- where the loop begins
-pub first-turn : (s : List ℕ) → Turn s wrong 0 s
+pub first-turn : (s : List ℕ) → Turn s wrong s
 first-turn s = record { left = refl; ends = omega arith; fits = omega arith }
 
 -- the numbers with v behind them
 abbrev pub with : Numbers → ℕ → Numbers
 with n v = record { count = n .count + 1; at = set (n .at) (n .count) v }
 
-module _ {s : List ℕ} {n : Numbers} {begins : ℕ} {l : List ℕ} (i : Turn s n begins l) {f : FieldRead} (p : f ≡ fieldOf l) where
+module _ {s : List ℕ} {n : Numbers} {l : List ℕ} (i : Turn s n l) {f : FieldRead} (p : f ≡ fieldOf l) where
   -- the line's fields are wrong
   wrong-line : push n (numberOf (field l)) ≡ wrong → {r : FieldsRead} → r ≡ fieldsBy wrong (length (first 10 s)) → r ≡ fieldsOf s
   wrong-line e q =
@@ -78,12 +78,12 @@ module _ {s : List ℕ} {n : Numbers} {begins : ℕ} {l : List ℕ} (i : Turn s 
       pushed : push n (numberOf (field l)) ≡ with n v
       pushed = ap (push n) (field-is l p q .number) ∙ rw (lt-ltb (n .count) most h)
 
-      pub last-turn : f .stop ≡ 10 → fieldsBy (with n v) (begins + f .end) ≡ fieldsOf s
+      pub last-turn : f .stop ≡ 10 → fieldsBy (with n v) (length s - length l + f .end) ≡ fieldsOf s
       last-turn g =
           let e : length (first 10 l) ≡ f .end = line-end 9 10 l (field-is l p q .end) (λ x. let z : _≡_ {A = ℕ} 9 10 = x in omega arith) (sym (field-is l p q .stop) ∙ g) in
-          ap (λ m. fieldsBy m (begins + f .end))
+          ap (λ m. fieldsBy m (length s - length l + f .end))
           (sym pushed ∙ sym (from-last n (field l)) ∙ ap (λ fs. numbersFrom n (field l ∷ fs)) (sym (no-fields 9 10 l (field-is l p q .end) e)) ∙ i .left)
-          ∙ ap (fieldsBy (numbersOf (split 9 (first 10 s)))) (ap (λ x. begins + x) (sym e) ∙ i .ends)
+          ∙ ap (fieldsBy (numbersOf (split 9 (first 10 s)))) (ap (λ x. length s - length l + x) (sym e) ∙ i .ends)
 
       module _ (g : f .stop ≡ 10 → ⊥) where
         goes : f .end < length (first 10 l)
@@ -92,13 +92,16 @@ module _ {s : List ℕ} {n : Numbers} {begins : ℕ} {l : List ℕ} (i : Turn s 
         pub inside : f .end < length l
         inside = place-inside 9 10 l (field-is l p q .end) goes
 
-        pub next-turn : Turn s (with n v) (begins + (f .end + 1)) (after (f .end) l)
+        shorter : length (after (f .end) l) ≡ length l - (f .end + 1)
+        shorter = ap length (tail-part l (f .end + 1)) ∙ length-drop (f .end + 1) l
+
+        pub next-turn : Turn s (with n v) (after (f .end) l)
         next-turn = record {
           left =
               ap (numbersFrom (with n v)) (sym (fields-after 9 10 l (field-is l p q .end) goes))
               ∙ ap (λ m. numbersFrom m (later 9 (first 10 l))) (sym pushed)
               ∙ sym (from-next n (field l) (later 9 (first 10 l)) (λ e. let z = sym (ap (λ m. m .count) pushed) ∙ e in omega arith))
               ∙ i .left;
-          ends = let x = i .ends in omega (arith, end-after 9 10 l (field-is l p q .end) goes);
-          fits = let x = i .fits in omega (arith, inside, ap length (tail-part l (f .end + 1)), length-drop (f .end + 1) l);
+          ends = let x = i .ends in let y = i .fits in omega (arith, inside, shorter, end-after 9 10 l (field-is l p q .end) goes);
+          fits = let x = i .fits in omega (arith, shorter);
         }

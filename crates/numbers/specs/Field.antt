@@ -15,11 +15,13 @@ use Rattle.numbers.specs.Number.{spelled, numberOf, numbersOf}
 abbrev pub field : List ℕ → List ℕ
 field s = first 9 (first 10 s)
 
--- The first i bytes of s are digits and write v: what is read of the field goes on behind them. It is followed until there are six, or the next is none.
-pub record Begins (s : List ℕ) (v i : ℕ) : Type 0 where
+-- The first i bytes of s are digits and write v, and b is the next: what is read of the field goes on behind them. It is followed until there are six, or
+-- the next is none.
+pub record Begins (s : List ℕ) (v i b : ℕ) : Type 0 where
   pub within : i ≤ length s
   pub reads : spelled v (field (drop i s)) ≡ spelled 0 (field s)
   pub long : i + length (field (drop i s)) ≡ length (field s)
+  pub next : b ≡ getD s i 10
   pub stops : i ≤ 5 → i < length s → 48 ≤ getD s i 0 → getD s i 0 ≤ 57 → ⊥
 
 -- a field's number, where it ends and the byte there, zeros where it is no number; past the end there stands a line feed

@@ -2,9 +2,9 @@
 // digits and no leading zero. Nothing here knows what the numbers mean.
 ghost use mathlib.Core.Path.{_≡_};
 ghost use Prim.Native.Nat.{ℕ, _+_, _<_, _≤_};
-ghost use lib.ListN.{length};
+ghost use lib.ListN.{length, getD};
 ghost use Rattle.text.specs.Split.{first};
-ghost use Rattle.numbers.specs.Number.{wrong};
+ghost use Rattle.numbers.specs.Number.{written, wrong};
 ghost use Rattle.numbers.specs.Field.{field, Begins, fieldBy, fieldOf, fieldsBy, fieldsOf};
 ghost use Rattle.numbers.specs.declared.Number.the-variants.{Bad};
 ghost use Rattle.numbers.specs.Digits.{front, digitsOf};
@@ -25,10 +25,11 @@ struct FieldRead {
     stop: u8,
 }
 
-// The digits that a text begins with: how many, six at the most, and the number that they write.
+// The digits that a text begins with: how many, six at the most, the number that they write, and the byte behind them.
 struct Run {
     count: usize,
     value: u32,
+    stop: u8,
 }
 
 // The numbers of a run of fields, zeros after them; a count of 0 where the fields are wrong.
@@ -51,25 +52,29 @@ pub struct Digits {
 
 // The digits that s begins with: a sixth is one too many, and none is looked for after it.
 fn read_digits(s: &[u8]) -> Run
-    ensures { λ r. ⌜ Begins (now (s .entry)) (r .value) (r .count) ⌝ }
+    ensures { λ r. ⌜ Begins (now (s .entry)) (r .value) (r .count) (r .stop) ⌝ }
 {
     let mut value: u32 = 0;
     let mut count: usize = 0;
     while count < s.len() {
+        let stop = s[count];
         if 5 < count {
-            return Run { count, value };
+            return Run { count, value, stop };
         }
-        let b = s[count];
-        if b < b'0' {
-            return Run { count, value };
+        if stop < b'0' {
+            return Run { count, value, stop };
         }
-        if b'9' < b {
-            return Run { count, value };
+        if b'9' < stop {
+            return Run { count, value, stop };
         }
-        value = value * 10 + (b - b'0') as u32;
+        value = value * 10 + (stop as u32 - b'0' as u32);
         count += 1;
     }
-    Run { count, value }
+    Run {
+        count,
+        value,
+        stop: b'\n',
+    }
 }
 
 fn no_field() -> FieldRead
@@ -82,30 +87,52 @@ fn no_field() -> FieldRead
     }
 }
 
+// Whether so many digits, the first those of s, write a number: one to five, and no leading zero.
+fn well_written(s: &[u8], digits: usize) -> bool
+    requires { ⌜ digits ≤ length (now s) ⌝ }
+    ensures { λ r. ⌜ r ≡ written digits (getD (now (s .entry)) 0 0) ⌝ }
+{
+    if digits == 1 {
+        return true;
+    }
+    if digits == 0 {
+        return false;
+    }
+    if 5 < digits {
+        return false;
+    }
+    if s[0] == b'0' {
+        return false;
+    }
+    true
+}
+
 // The number of the field that s begins with.
 fn read_field(s: &[u8]) -> FieldRead
     ensures { λ r. ⌜ r ≡ fieldOf (now (s .entry)) ⌝ }
 {
     let run = read_digits(s);
     let end = run.count;
-    if 5 < end {
-        return no_field();
-    }
-    let stop = text::byte_at(s, end);
-    if !text::is_stop(stop) {
-        return no_field();
-    }
-    if end == 0 {
+    if !well_written(s, end) {
         return no_field();
     }
     let number = Number::Is(run.value);
-    if end == 1 {
-        return FieldRead { number, end, stop };
+    let stop = run.stop;
+    if stop == b'\n' {
+        return FieldRead {
+            number,
+            end,
+            stop: b'\n',
+        };
     }
-    if s[0] == b'0' {
+    if stop != b'\t' {
         return no_field();
     }
-    FieldRead { number, end, stop }
+    FieldRead {
+        number,
+        end,
+        stop: b'\t',
+    }
 }
 
 // A line whose fields are wrong.
@@ -128,7 +155,6 @@ pub fn read_fields(s: &[u8]) -> FieldsRead
 {
     let mut count: usize = 0;
     let mut at = [0u32; MOST];
-    let mut begins: usize = 0;
     let mut rest = s;
     loop {
         let f = read_field(rest);
@@ -146,12 +172,11 @@ pub fn read_fields(s: &[u8]) -> FieldsRead
             let numbers = Numbers { count, at };
             return FieldsRead {
                 numbers,
-                end: begins + e,
+                end: s.len() - rest.len() + e,
             };
         }
         let b = e + 1;
         rest = &rest[b..];
-        begins += b;
     }
 }
 

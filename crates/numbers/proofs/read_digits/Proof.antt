@@ -1,7 +1,8 @@
 -- `numbers::read_digits` meets its contract. Assumes nothing.
 use Prim.Native.Nat.{_+_, _≤_, _<_, _-_, _^_}
 use mathlib.Core.Path.{_≡_, sym, _∙_}
-use lib.ListN.{length, drop}
+use lib.ListN.{length, drop, List·getD-eq-default}
+use Rattle.text.proofs.Stops.{there}
 use Rattle.numbers.specs.Number.{spelled}
 use Rattle.numbers.specs.Field.{field}
 use native.Mathlib.Omega.{arith}
@@ -21,22 +22,28 @@ loop-holds : tie.Need-loop-holds Inv-loop μ-loop
 loop-holds c = search needs
 
 returns : tie.Need-returns Inv-loop μ-loop
-returns c = let l = c .before .before .loop in record { within = l .inv .0; reads = l .inv .3; long = l .inv .4; stops = λ a b d e. omega arith }
+returns c = let l = c .before .before .before .loop in record { within = l .inv .0; reads = l .inv .3; long = l .inv .4; next = there (c .before .before .before .before .args .s .now) (l .count) 0 10 (omega arith); stops = λ a b d e. omega arith }
 
-shared-slice-read-b : tie.Need-shared-slice-read-b Inv-loop μ-loop
-shared-slice-read-b c = search needs
+shared-slice-read-stop : tie.Need-shared-slice-read-stop Inv-loop μ-loop
+shared-slice-read-stop c = search needs
 
 returns-2 : tie.Need-returns-2 Inv-loop μ-loop
-returns-2 c = let l = c .before .before .before .before .loop in record { within = l .inv .0; reads = l .inv .3; long = l .inv .4; stops = λ a b d e. omega arith }
+returns-2 c = let l = c .before .before .before .before .loop in record { within = l .inv .0; reads = l .inv .3; long = l .inv .4; next = there (c .before .before .before .before .before .args .s .now) (l .count) 0 10 (omega arith); stops = λ a b d e. omega arith }
 
 returns-3 : tie.Need-returns-3 Inv-loop μ-loop
-returns-3 c = let l = c .before .before .before .before .before .loop in record { within = l .inv .0; reads = l .inv .3; long = l .inv .4; stops = λ a b d e. omega arith }
+returns-3 c = let l = c .before .before .before .before .before .loop in record { within = l .inv .0; reads = l .inv .3; long = l .inv .4; next = there (c .before .before .before .before .before .before .args .s .now) (l .count) 0 10 (omega arith); stops = λ a b d e. omega arith }
 
 mul-value : tie.Need-mul-value Inv-loop μ-loop
 mul-value c = let l = c .before .before .before .before .before .loop in let s = c .before .before .before .before .before .before .args .s .now in omega (arith, small (l .count) (l .value) (omega arith) (l .inv .2))
 
 cast-value : tie.Need-cast-value Inv-loop μ-loop
 cast-value c = omega arith
+
+cast-value-2 : tie.Need-cast-value-2 Inv-loop μ-loop
+cast-value-2 c = search needs
+
+sub-value : tie.Need-sub-value Inv-loop μ-loop
+sub-value c = omega arith
 
 add-value : tie.Need-add-value Inv-loop μ-loop
 add-value c = let l = c .before .before .before .before .before .loop in let s = c .before .before .before .before .before .before .args .s .now in omega (arith, small (l .count) (l .value) (omega arith) (l .inv .2))
@@ -51,7 +58,7 @@ loop-again : tie.Need-loop-again Inv-loop μ-loop
 loop-again c = let l = c .before .before .before .before .before .loop in let s = c .before .before .before .before .before .before .args .s .now in (omega arith, omega arith, grows (l .count) (l .value) _ (l .inv .2) (omega arith), sym (digit-reads (l .value) (l .count) s (omega arith) (omega arith) (omega arith)) ∙ l .inv .3, let x = l .inv .4 in omega (arith, digit-long (l .value) (l .count) s (omega arith) (omega arith) (omega arith)))
 
 returns-4 : tie.Need-returns-4 Inv-loop μ-loop
-returns-4 c = let l = c .before .loop in record { within = l .inv .0; reads = l .inv .3; long = l .inv .4; stops = λ a b d e. omega arith }
+returns-4 c = let l = c .before .loop in record { within = l .inv .0; reads = l .inv .3; long = l .inv .4; next = sym (List·getD-eq-default (c .before .before .args .s .now) 10 (omega arith)); stops = λ a b d e. omega arith }
 
 pub read-digits-spec : {M : Type 1} → statement M
-read-digits-spec = tie.close (tie.spec Inv-loop μ-loop loop-holds returns shared-slice-read-b returns-2 returns-3 mul-value cast-value add-value add-count loop-less loop-again returns-4)
+read-digits-spec = tie.close (tie.spec Inv-loop μ-loop loop-holds shared-slice-read-stop returns returns-2 returns-3 mul-value cast-value cast-value-2 sub-value add-value add-count loop-less loop-again returns-4)

@@ -9,10 +9,10 @@ use Rattle.numbers.proofs.read_fields.Statement.{statement}
 use Rattle.numbers.proofs.read_fields.Tie as tie
 
 abbrev Inv-loop : tie.InvT-loop
-Inv-loop s count₀ at₀ begins₀ rest₀ count at begins rest = Turn s (record { count = count; at = at }) begins rest
+Inv-loop s count₀ at₀ rest₀ count at rest = Turn s (record { count = count; at = at }) rest
 
 abbrev μ-loop : tie.MeasureT-loop
-μ-loop s count₀ at₀ begins₀ rest₀ count at begins rest = length rest
+μ-loop s count₀ at₀ rest₀ count at rest = length rest
 
 loop-holds : tie.Need-loop-holds Inv-loop μ-loop
 loop-holds c = first-turn (c .before .args .s .now)
@@ -47,8 +47,11 @@ array-write-at c = search needs
 add-count : tie.Need-add-count Inv-loop μ-loop
 add-count c = omega arith
 
-add-t17 : tie.Need-add-t17 Inv-loop μ-loop
-add-t17 c = let i = c .before .before .before .before .before .before .before .loop .inv in omega (arith, i .fits, end-within (c .before .before .before .before .before .before .before .loop .rest .now) (c .before .before .before .before .before .before .read-field .ensures) (c .before .before .before .before .number .given .1))
+sub-t18 : tie.Need-sub-t18 Inv-loop μ-loop
+sub-t18 c = let i = c .before .before .before .before .before .before .before .loop .inv in omega (arith, i .fits)
+
+add-t19 : tie.Need-add-t19 Inv-loop μ-loop
+add-t19 c = let i = c .before .before .before .before .before .before .before .loop .inv in omega (arith, i .fits, end-within (c .before .before .before .before .before .before .before .loop .rest .now) (c .before .before .before .before .before .before .read-field .ensures) (c .before .before .before .before .number .given .1))
 
 returns-3 : tie.Need-returns-3 Inv-loop μ-loop
 returns-3 c = last-turn (c .before .before .before .before .before .before .before .loop .inv) (c .before .before .before .before .before .before .read-field .ensures) (c .before .before .before .before .number .given .1) (c .before .before .if1 .left) (c .if2 .taken)
@@ -65,9 +68,6 @@ part-rest-start c = let h = inside (c .before .before .before .before .before .b
 part-rest-end : tie.Need-part-rest-end Inv-loop μ-loop
 part-rest-end c = let h = inside (c .before .before .before .before .before .before .before .loop .inv) (c .before .before .before .before .before .before .read-field .ensures) (c .before .before .before .before .number .given .1) (c .before .before .if1 .left) (c .if2 .left) in search needs
 
-add-begins : tie.Need-add-begins Inv-loop μ-loop
-add-begins c = let i = c .before .before .before .before .before .before .before .before .loop .inv in let h = inside (c .before .before .before .before .before .before .before .before .loop .inv) (c .before .before .before .before .before .before .before .read-field .ensures) (c .before .before .before .before .before .number .given .1) (c .before .before .before .if1 .left) (c .before .if2 .left) in omega (arith, i .fits)
-
 loop-less : tie.Need-loop-less Inv-loop μ-loop
 loop-less c = after-shorter _ (c .before .before .before .before .before .before .before .before .loop .rest .now) (inside (c .before .before .before .before .before .before .before .before .loop .inv) (c .before .before .before .before .before .before .before .read-field .ensures) (c .before .before .before .before .before .number .given .1) (c .before .before .before .if1 .left) (c .before .if2 .left))
 
@@ -75,4 +75,4 @@ loop-again : tie.Need-loop-again Inv-loop μ-loop
 loop-again c = next-turn (c .before .before .before .before .before .before .before .before .loop .inv) (c .before .before .before .before .before .before .before .read-field .ensures) (c .before .before .before .before .before .number .given .1) (c .before .before .before .if1 .left) (c .before .if2 .left)
 
 pub read-fields-spec : {M : Type 1} → statement M
-read-fields-spec = tie.close (tie.spec Inv-loop μ-loop loop-holds read-field-requires enum-known-number enum-told wrong-fields-requires returns wrong-fields-requires-2 returns-2 mul-at array-write-at add-count add-t17 returns-3 add-b sub-rest part-rest-start part-rest-end add-begins loop-less loop-again)
+read-fields-spec = tie.close (tie.spec Inv-loop μ-loop loop-holds read-field-requires enum-known-number enum-told wrong-fields-requires returns wrong-fields-requires-2 returns-2 mul-at array-write-at add-count sub-t18 add-t19 returns-3 add-b sub-rest part-rest-start part-rest-end loop-less loop-again)
