@@ -1,7 +1,7 @@
 -- A word found from the last of the words to the first, or looked for alone, is the word that is spelled. Assumes nothing.
 use mathlib.Core.List.{List}
 use mathlib.Core.Bool.{true}
-use mathlib.Core.Path.{_≡_, refl, ap, sym, _∙_}
+use mathlib.Core.Path.{_≡_, ap, sym}
 use Prim.Native.Nat.{ℕ}
 use Rattle.text.specs.Split.{pick, sameBytes}
 use Rattle.text.proofs.Bytes.{same-equal}

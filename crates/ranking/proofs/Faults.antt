@@ -1,12 +1,9 @@
 -- The fault of a fact's line, case by case. Assumes nothing.
-use mathlib.Core.Path.{_≡_, refl, ap, sym, _∙_}
+use mathlib.Core.Path.{_≡_, sym, _∙_}
 use mathlib.Core.Bool.{Bool, true, false, cond}
 use mathlib.Core.List.{List}
 use Prim.Native.Nat.{ℕ, _<_, _≤_}
-use native.Mathlib.Omega.{arith}
-use lib.Dec.{eqb, ltb}
-use borrow.Author.Tests.{lt-ltb, le-ltb, eq-eqb, ne-eqb, ltb-false}
-use Rattle.text.specs.Split.{pick}
+use borrow.Author.Tests.{lt-ltb, le-ltb, eq-eqb, ne-eqb}
 use Rattle.product.specs.Table.{absent}
 use Rattle.ranking.specs.Rank.{largest, faultOf, Ranked}
 
@@ -42,7 +39,6 @@ outside-absent held inside e = rw e
 module _ {before put : List ℕ} {f g : ℕ} (e : f ≡ g) where
   pub not-ranked : (f ≡ 0 → ⊥) → Ranked before before g put f
   not-ranked h = record { answers = e; leaves = rw (← e, ne-eqb _ _ h) }
-
 
 pub is-ranked : {before put after : List ℕ} {g : ℕ} → 0 ≡ g → after ≡ put → Ranked before after g put 0
 is-ranked e k = record { answers = e; leaves = k ∙ rw (← e) }

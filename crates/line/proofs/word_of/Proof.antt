@@ -1,7 +1,6 @@
 -- `line::word_of` meets its contract. Assumes nothing.
 use mathlib.Core.Path.{refl, sym, _∙_}
 use Rattle.text.specs.Split.{without}
-use Rattle.numbers.specs.Field.{field}
 use Rattle.line.proofs.Words.{is-erase, is-head}
 use Rattle.line.proofs.word_of.Statement.{statement}
 use Rattle.line.proofs.word_of.Tie as tie

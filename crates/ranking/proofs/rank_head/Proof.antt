@@ -1,5 +1,5 @@
 -- `ranking::rank_head` meets its contract. Assumes nothing.
-use mathlib.Core.Path.{_≡_, sym, _∙_}
+use mathlib.Core.Path.{sym, _∙_}
 use Rattle.model.proofs.Counted.{passed, failed}
 use Rattle.ranking.proofs.Faults.{fault-early, fault-twice, fault-outside, fault-large, fault-none, outside-absent, not-ranked, is-ranked}
 use native.Mathlib.Omega.{arith}
