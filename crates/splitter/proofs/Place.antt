@@ -88,20 +88,6 @@ module _ (s : List ℕ) (k : ℕ) (none : (i : ℕ) → i < k → safeAt s i ≡
       let z : placeFrom (eqb (getD (10 ∷ s) k 0) 10) (drop k s) ≡ 0 = let n = next s k h in rw n (rw (rw n at e)) in
       omega (arith, skip 10 s k (omega arith) none)
 
-  -- four bytes do not fit behind k
-  pub place-none : k ≤ length s → length s < k + 4 → length s ≡ place s
-  unfolding placeFrom
-  place-none h t =
-      let z : placeFrom (eqb (getD (10 ∷ s) (length s) 0) 10) (drop (length s) s) ≡ 0 = rw (drop-of-length-le s (le-refl (length s))) in
-      omega (arith, skip 10 s (length s) (le-refl _) all)
-    where
-      all : (i : ℕ) → i < length s → safeAt s i ≡ false
-      all i l = go (ltb i k) refl
-        where
-          go : (b : Bool) → ltb i k ≡ b → safeAt s i ≡ false
-          go true e = none i (ltb-true i k e)
-          go false e = not-there s i (sym (too-short (drop i s) (omega (arith, ltb-false i k e, length-drop i s))))
-
 letters : (j : ℕ) → j < 4 → letterOf (getD safe j 0) ≡ j
 letters zero h = refl
 letters (suc zero) h = refl
@@ -115,27 +101,46 @@ word-letter s i j h e =
     let q : getD s (i + j) 0 ≡ getD safe j 0 = sym (getD-drop i s j 0) ∙ sym (getD-take 4 (drop i s) j 0 h) ∙ ap (λ l. getD l j 0) (same-equal _ _ e) in
     ap letterOf q ∙ letters j h
 
--- four places from k on, by the letter that stands at the last of them: none before k is the listing's
-module _ (s : List ℕ) (k letter : ℕ) (none : (i : ℕ) → i < k → safeAt s i ≡ false) (l : letter ≡ letterOf (getD s (k + 3) 0)) where
-  -- only the one that the letter says can be
-  pub none-but : (i : ℕ) → i < k + 4 → (k ≤ i → i + letter ≡ k + 3 → ⊥) → safeAt s i ≡ false
-  none-but i h other = go (ltb i k) refl (safeAt s i) refl
+-- four places in a row, of which `last` is the last: none before them is the listing's
+module _ (s : List ℕ) (last : ℕ) (none : (i : ℕ) → i + 3 < last → safeAt s i ≡ false) where
+  -- where the text ends, four bytes do not fit
+  pub place-none : length s ≤ last → length s ≡ place s
+  unfolding placeFrom
+  place-none t =
+      let z : placeFrom (eqb (getD (10 ∷ s) (length s) 0) 10) (drop (length s) s) ≡ 0 = rw (drop-of-length-le s (le-refl (length s))) in
+      omega (arith, skip 10 s (length s) (le-refl _) all)
     where
-      go : (b : Bool) → ltb i k ≡ b → (t : Bool) → safeAt s i ≡ t → t ≡ false
-      go b e false f = refl
-      go true e true f = sym f ∙ none i (ltb-true i k e)
-      go false e true f =
-          let w = word-letter s i (k + 3 - i) (omega (arith, ltb-false i k e)) (there s i f) in
-          let p : i + (k + 3 - i) ≡ k + 3 = omega (arith, ltb-false i k e) in
-          absurd (other (ltb-false i k e) (omega (arith, ltb-false i k e, l, ap (λ n. letterOf (getD s n 0)) p, w)))
+      all : (i : ℕ) → i < length s → safeAt s i ≡ false
+      all i h = go (ltb (i + 3) last) refl
+        where
+          go : (b : Bool) → ltb (i + 3) last ≡ b → safeAt s i ≡ false
+          go true e = none i (ltb-true (i + 3) last e)
+          go false e = not-there s i (sym (too-short (drop i s) (omega (arith, ltb-false (i + 3) last e, length-drop i s))))
 
-  pub four-passed : (4 ≤ letter) ⊎ (safeAt s (k + 3 - letter) ≡ false) → (i : ℕ) → i < k + 4 → safeAt s i ≡ false
-  four-passed (inl n) i h = none-but i h (λ a e. omega arith)
-  four-passed (inr n) i h = go (eqb (i + letter) (k + 3)) refl
-    where
-      go : (b : Bool) → eqb (i + letter) (k + 3) ≡ b → safeAt s i ≡ false
-      go true e = let p : k + 3 - letter ≡ i = omega (arith, eqb-true (i + letter) (k + 3) e) in rw p at n
-      go false e = none-but i h (λ a. eqb-false (i + letter) (k + 3) e)
+  -- and else only the one that the letter at the last says can be
+  module _ (letter : ℕ) (l : letter ≡ letterOf (getD s last 0)) where
+    pub none-but : (i : ℕ) → i ≤ last → (i + letter ≡ last → ⊥) → safeAt s i ≡ false
+    none-but i h other = go (ltb (i + 3) last) refl (safeAt s i) refl
+      where
+        go : (b : Bool) → ltb (i + 3) last ≡ b → (t : Bool) → safeAt s i ≡ t → t ≡ false
+        go b e false f = refl
+        go true e true f = sym f ∙ none i (ltb-true (i + 3) last e)
+        go false e true f =
+            let w = word-letter s i (last - i) (omega (arith, ltb-false (i + 3) last e)) (there s i f) in
+            let p : i + (last - i) ≡ last = omega arith in
+            absurd (other (omega (arith, l, ap (λ n. letterOf (getD s n 0)) p, w)))
+
+    pub four-passed : (4 ≤ letter) ⊎ ((letter ≤ last) × (safeAt s (last - letter) ≡ false)) → (i : ℕ) → i + 3 < last + 4 → safeAt s i ≡ false
+    four-passed (inl n) i h = go (ltb (i + 3) last) refl
+      where
+        go : (b : Bool) → ltb (i + 3) last ≡ b → safeAt s i ≡ false
+        go true e = none i (ltb-true (i + 3) last e)
+        go false e = none-but i (omega arith) (λ k. omega (arith, ltb-false (i + 3) last e))
+    four-passed (inr (w, n)) i h = go (eqb (i + letter) last) refl
+      where
+        go : (b : Bool) → eqb (i + letter) last ≡ b → safeAt s i ≡ false
+        go true e = let p : last - letter ≡ i = omega (arith, eqb-true (i + letter) last e) in rw p at n
+        go false e = none-but i (omega arith) (eqb-false (i + letter) last e)
 
 -- the place lies within the text
 within : (begins : Bool) (s : List ℕ) → placeFrom begins s ≤ length s

@@ -54,20 +54,16 @@ pub fn listing_at(text: &[u8]) -> usize
     ensures { λ r. ⌜ r ≡ place (now (text .entry)) ⌝ }
 {
     let n = text.len();
-    if n < 4 {
-        return n;
-    }
-    let last = n - 3;
-    let mut at: usize = 0;
-    while at < last {
-        let letter = letter_of(text[at + 3]);
+    let mut last: usize = 3;
+    while last < n {
+        let letter = letter_of(text[last]);
         if letter < 4 {
-            let k = at + 3 - letter;
-            if safe_at(text, k) {
-                return k;
+            let at = last - letter;
+            if safe_at(text, at) {
+                return at;
             }
         }
-        at += 4;
+        last += 4;
     }
     n
 }

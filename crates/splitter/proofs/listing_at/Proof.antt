@@ -12,22 +12,13 @@ use Rattle.splitter.proofs.listing_at.Statement.{statement}
 use Rattle.splitter.proofs.listing_at.Tie as tie
 
 abbrev Inv-loop : tie.InvT-loop
-Inv-loop text n last at₀ at = (n ≡ length text) × (last + 3 ≡ n) × (at ≤ n) × ((i : ℕ) → i < at → safeAt text i ≡ false)
+Inv-loop text n last₀ last = (n ≡ length text) × (3 ≤ last) × ((i : ℕ) → i + 3 < last → safeAt text i ≡ false)
 
 abbrev μ-loop : tie.MeasureT-loop
-μ-loop text n last at₀ at = n - at
-
-returns : tie.Need-returns Inv-loop μ-loop
-returns c = let t = c .before .before .args .text .now in place-none t 0 (λ i h. absurd (omega arith)) (omega arith) (omega arith)
-
-sub-last : tie.Need-sub-last Inv-loop μ-loop
-sub-last c = search needs
+μ-loop text n last₀ last = n - last
 
 loop-holds : tie.Need-loop-holds Inv-loop μ-loop
-loop-holds c = (search needs, search needs, search needs, λ i h. absurd (omega arith))
-
-add-letter-of : tie.Need-add-letter-of Inv-loop μ-loop
-add-letter-of c = search needs
+loop-holds c = (search needs, search needs, λ i h. absurd (omega arith))
 
 shared-slice-read-letter-of : tie.Need-shared-slice-read-letter-of Inv-loop μ-loop
 shared-slice-read-letter-of c = search needs
@@ -35,24 +26,21 @@ shared-slice-read-letter-of c = search needs
 letter-of-requires : tie.Need-letter-of-requires Inv-loop μ-loop
 letter-of-requires c κs = search needs
 
-add-k : tie.Need-add-k Inv-loop μ-loop
-add-k c = search needs
-
-sub-k : tie.Need-sub-k Inv-loop μ-loop
-sub-k c = search needs
+sub-at : tie.Need-sub-at Inv-loop μ-loop
+sub-at c = search needs
 
 safe-at-requires : tie.Need-safe-at-requires Inv-loop μ-loop
 safe-at-requires c κs = search needs
 
-returns-2 : tie.Need-returns-2 Inv-loop μ-loop
-returns-2 c =
+returns : tie.Need-returns Inv-loop μ-loop
+returns c =
     let l = c .before .before .before .before .before .before .loop in
-    let t = c .before .before .before .before .before .before .before .before .before .args .text .now in
-    let k = l .at + 3 - c .before .before .before .letter-of .result in
-    place-here t k (λ i h. none-but t (l .at) (c .before .before .before .letter-of .result) (l .inv .3) (c .before .before .before .letter-of .ensures) i (omega arith) (λ a e. omega arith)) (omega arith) (sym (c .before .safe-at .ensures) ∙ c .if3 .taken)
+    let t = c .before .before .before .before .before .before .before .before .args .text .now in
+    let g = c .before .before .before .letter-of in
+    place-here t (l .last - g .result) (λ i h. none-but t (l .last) (l .inv .2) (g .result) (g .ensures) i (omega arith) (λ e. omega arith)) (omega arith) (sym (c .before .safe-at .ensures) ∙ c .if2 .taken)
 
-add-at : tie.Need-add-at Inv-loop μ-loop
-add-at c = search needs
+add-last : tie.Need-add-last Inv-loop μ-loop
+add-last c = search needs
 
 loop-less : tie.Need-loop-less Inv-loop μ-loop
 loop-less c = search needs
@@ -60,15 +48,12 @@ loop-less c = search needs
 loop-again : tie.Need-loop-again Inv-loop μ-loop
 loop-again c =
     let l = c .before .before .before .before .loop in
-    let t = c .before .before .before .before .before .before .before .args .text .now in (
-      search needs,
-      search needs,
-      omega arith,
-      four-passed t (l .at) (c .before .letter-of .result) (l .inv .3) (c .before .letter-of .ensures) (⊎-elim (λ w. inr (sym (w .1 .ensures) ∙ w .2 .left)) (λ w. inl (w .left)) (c .if2 .came)),
-    )
+    let g = c .before .letter-of in
+    let passed = four-passed (c .before .before .before .before .before .before .args .text .now) (l .last) (l .inv .2) (g .result) (g .ensures) in
+    (search needs, omega arith, passed (⊎-elim (λ w. inr (omega arith, sym (w .1 .ensures) ∙ w .2 .left)) (λ w. inl (w .left)) (c .if1 .came)))
 
-returns-3 : tie.Need-returns-3 Inv-loop μ-loop
-returns-3 c = let l = c .before .loop in let t = c .before .before .before .before .args .text .now in l .inv .0 ∙ place-none t (l .at) (l .inv .3) (omega arith) (omega arith)
+returns-2 : tie.Need-returns-2 Inv-loop μ-loop
+returns-2 c = let l = c .before .loop in l .inv .0 ∙ place-none (c .before .before .before .args .text .now) (l .last) (l .inv .2) (omega arith)
 
 pub listing-at-spec : {M : Type 1} → statement M
 listing-at-spec =
@@ -76,17 +61,13 @@ listing-at-spec =
     (tie.spec
     Inv-loop
     μ-loop
-    returns
-    sub-last
     loop-holds
-    add-letter-of
     shared-slice-read-letter-of
     letter-of-requires
-    add-k
-    sub-k
+    sub-at
     safe-at-requires
-    returns-2
-    add-at
+    returns
+    add-last
     loop-less
     loop-again
-    returns-3)
+    returns-2)
