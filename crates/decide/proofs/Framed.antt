@@ -1,21 +1,23 @@
 -- A valid model's own rows, with the matrices of its classes, hold its product. Assumes nothing.
 use mathlib.Core.List.{List}
-use mathlib.Core.Path.{_≡_, refl, sym, ap, ap₂, _∙_, subst}
+use mathlib.Core.Path.{_≡_, refl, sym, ap, ap₂, _∙_, subst, subst⁻¹}
 use Prim.Native.Nat.{ℕ, zero, suc, _+_, _*_, _%_, _<_}
 use native.Mathlib.Nat.{mod-eq-of-lt}
 use native.Mathlib.Omega.{arith}
-use lib.Dec.{T, eqb·suc-zero, eqb·suc-suc}
+use lib.Dec.{T, eqb-refl, eqb·suc-zero, eqb·suc-suc}
 use lib.ListN.{getD}
-use Rattle.product.specs.Lists.{All}
+use Rattle.product.specs.Lists.{All, upTo}
 use Rattle.product.specs.Product.{Rule, exit, direct, call, symbol, pushed}
-use Rattle.product.proofs.Lists.{All-map}
+use Rattle.product.proofs.Lists.{All-map, any-of, in-upTo, same-truth}
 use Rattle.model.specs.declared.Model.{Model}
 use Rattle.model.specs.Model as model
 use Rattle.model.specs.Model.{inRow, rule, productOf}
 use Rattle.model.specs.Valid.{valid}
 use Rattle.model.proofs.Valid.{valid-sizes, product-in}
 use Rattle.steps.specs.Steps.{classSteps}
-use Rattle.steps.proofs.Laws.{class-steps, steps-in}
+use Rattle.steps.proofs.Laws.{step-entry, entry-step, steps-in}
+use Rattle.relations.specs.Relations.{goes, steps}
+use Rattle.relations.proofs.Made.{of-steps}
 use Rattle.bits.specs.Matrix.{mats}
 use Rattle.decide.specs.Gather.{kindAt, classAt, overAt, underAt}
 use Rattle.decide.specs.Take.{symbolAt}
@@ -70,6 +72,18 @@ module _ (m : Model) (v : T (valid m)) where
   pub row-is : (r : ℕ) → r < m .rules → rule m r ≡ rowRule (m .rulerows) r
   row-is r l = rule-is r l ∙ ap (λ g. ruleBy (kindAt (m .rulerows) r) g (overAt (m .rulerows) r) (underAt (m .rulerows) r)) (sym (mod-eq-of-lt (class-lt r l)))
 
+  -- THE STEPS of a rule are those of its class
+  class-steps : (r : ℕ) → r < m .rules → (q q′ : ℕ) → steps (productOf m) r q q′ ≡ mats (classSteps (m .moverows) (m .shows) (m .moves) (m .symbols)) (symbol (rule m r)) q q′
+  class-steps r l q q′ = same-truth (steps (productOf m) r q q′) (mats (classSteps (m .moverows) (m .shows) (m .moves) (m .symbols)) (symbol (rule m r)) q q′) to from
+    where
+      to : T (steps (productOf m) r q q′) → T (mats (classSteps (m .moverows) (m .shows) (m .moves) (m .symbols)) (symbol (rule m r)) q q′)
+      to t = let (w, e) = of-steps (productOf m) r q q′ t in step-entry m v r l w q q′ e
+
+      from : T (mats (classSteps (m .moverows) (m .shows) (m .moves) (m .symbols)) (symbol (rule m r)) q q′) → T (steps (productOf m) r q q′)
+      from t =
+          let (w, i, e) = entry-step m v r l q q′ t in
+          any-of (λ w. goes (productOf m .next (record { by-rule = r; by-move = w }) q) q′) (upTo (m .moves)) w (in-upTo (m .moves) w i) (subst⁻¹ (λ o. T (goes o q′)) e (eqb-refl q′))
+
   pub model-frame : (sy tg : List ℕ) → SameSymbols 32 sy → tg ≡ classSteps (m .moverows) (m .shows) (m .moves) (m .symbols)
       → Frame (productOf m) (m .states) (m .rulerows) sy tg
   model-frame sy tg same tg-is = record {
@@ -78,6 +92,6 @@ module _ (m : Model) (v : T (valid m)) where
     states-are = refl;
     rules-are = λ r l. row-is r l ∙ ap (λ g. ruleBy (kindAt (m .rulerows) r) (g % 32) (overAt (m .rulerows) r) (underAt (m .rulerows) r)) (sym (same (classAt (m .rulerows) r) (class-lt r l)));
     class-in = λ r l. omega (arith, class-lt r l);
-    steps-are = λ r q q′ l. class-steps m v r l q q′ ∙ ap₂ (λ t g. mats t g q q′) (sym tg-is) (symbol-is r);
+    steps-are = λ r q q′ l. class-steps r l q q′ ∙ ap₂ (λ t g. mats t g q q′) (sym tg-is) (symbol-is r);
     steps-in = λ c q q′ t. steps-in m v c q q′ (subst (λ l. T (mats l c q q′)) tg-is t);
   }
