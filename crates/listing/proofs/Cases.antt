@@ -6,6 +6,7 @@ use native.Mathlib.Omega.{arith}
 use lib.ListN.{length, replicate}
 use borrow.Author.Tests.{eq-eqb, ne-eqb}
 use Rattle.model.specs.declared.Model.{Model}
+use Rattle.model.proofs.Bounds.{few-heads, few-triples}
 use Rattle.fitting.specs.declared.Fit.{Fit}
 use Rattle.fitting.specs.Fits.{headsOf, triplesOf, fitOf, Fits}
 use Rattle.fitting.proofs.Tested.{is-invalid, is-short, is-well, heads-are, triples-are, tested-well}
@@ -65,6 +66,13 @@ module _ (m : Model) (text hs ts : List ℕ) {f : Fit} (k : f ≡ fitOf m (lengt
 
   pub triples-within : f .triples ≤ length ts
   triples-within = let w = fits in omega (arith, triples-are m (length hs) (length ts) k p q, w .triples-there)
+
+  -- so many cells were collected
+  pub heads-few : f .heads ≤ 256
+  heads-few = omega (arith, heads-are m (length hs) (length ts) k p q, few-heads m (fits .valid-model))
+
+  pub triples-few : f .triples ≤ 2048
+  triples-few = omega (arith, triples-are m (length hs) (length ts) k p q, few-triples m (fits .valid-model))
 
   module _ {e : Ended} (is : e ≡ linesOf m text) where
     pub refused-after : (e .refusal ≡ 0 → ⊥) → {r : ListingRead} → r ≡ refusedAs (e .refusal) (e .line) → Reads m text hs ts hs ts r

@@ -1,7 +1,7 @@
 // Reads a listing into the two lent arrays of a table.
 ghost use mathlib.Core.Path.{_≡_};
 ghost use Prim.Native.Nat.{ℕ, _≤_};
-ghost use lib.ListN.{length, getD};
+ghost use lib.ListN.{length};
 ghost use Rattle.listing.specs.Reading.{refusedAs, filled, Reads};
 use model::Model;
 use table::ABSENT;
@@ -34,24 +34,15 @@ fn refused_as(n: u8, line: usize) -> ListingRead
     ListingRead::OutOfRange(line)
 }
 
-// A cell, 0 past the end.
-fn cell(cells: &[u16], i: usize) -> u16
-    ensures { λ r. ⌜ r ≡ getD (now (cells .entry)) i 0 ⌝ }
-{
-    if cells.len() <= i {
-        return 0;
-    }
-    cells[i]
-}
-
 // Copies the first n cells.
 fn copy(from: &[u16], to: &mut [u16], n: usize)
+    requires { ⌜ n ≤ length (now from) ⌝ }
     requires { ⌜ n ≤ length (now to) ⌝ }
     ensures { λ _. ⌜ now (to .exit) ≡ filled n (now (from .entry)) (now (to .entry)) ⌝ }
 {
     let mut i: usize = 0;
     while i < n {
-        to[i] = cell(from, i);
+        to[i] = from[i];
         i += 1;
     }
 }

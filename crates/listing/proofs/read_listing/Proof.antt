@@ -1,6 +1,7 @@
 -- `listing::read_listing` meets its contract. Assumes nothing.
-use Rattle.listing.proofs.Cases.{invalid-reads, short-reads, lines-read, heads-within, triples-within, refused-after, accepted-after}
+use Rattle.listing.proofs.Cases.{invalid-reads, short-reads, lines-read, heads-within, triples-within, heads-few, triples-few, refused-after, accepted-after}
 use borrow.Author.Needs.{needs}
+use native.Mathlib.Omega.{arith}
 use Rattle.listing.proofs.read_listing.Statement.{statement}
 use Rattle.listing.proofs.read_listing.Tie as tie
 
@@ -32,13 +33,13 @@ slice-aggregate-copy : tie.Need-slice-aggregate-copy
 slice-aggregate-copy c = search needs
 
 copy-requires : tie.Need-copy-requires
-copy-requires c κs = let a = c .before .before .before .before .before .before .before .before .before .before .before .before .before .before .before .before .args in heads-within (a .m) (a .text .now) (a .heads .now) (a .triples .now) (c .before .before .before .before .before .before .before .before .before .before .before .before .measure .ensures) (c .before .before .before .before .before .before .before .before .before .before .if1 .left) (c .before .before .before .before .before .before .before .before .if2 .left)
+copy-requires c κs = let a = c .before .before .before .before .before .before .before .before .before .before .before .before .before .before .before .before .args in (omega (arith, heads-few (a .m) (a .text .now) (a .heads .now) (a .triples .now) (c .before .before .before .before .before .before .before .before .before .before .before .before .measure .ensures) (c .before .before .before .before .before .before .before .before .before .before .if1 .left) (c .before .before .before .before .before .before .before .before .if2 .left), slice-aggregate-copy (c .before)), heads-within (a .m) (a .text .now) (a .heads .now) (a .triples .now) (c .before .before .before .before .before .before .before .before .before .before .before .before .measure .ensures) (c .before .before .before .before .before .before .before .before .before .before .if1 .left) (c .before .before .before .before .before .before .before .before .if2 .left))
 
 slice-aggregate-copy-2 : tie.Need-slice-aggregate-copy-2
 slice-aggregate-copy-2 c = search needs
 
 copy-requires-2 : tie.Need-copy-requires-2
-copy-requires-2 c κs = let a = c .before .before .before .before .before .before .before .before .before .before .before .before .before .before .before .before .before .before .before .before .before .args in triples-within (a .m) (a .text .now) (a .heads .now) (a .triples .now) (c .before .before .before .before .before .before .before .before .before .before .before .before .before .before .before .before .before .measure .ensures) (c .before .before .before .before .before .before .before .before .before .before .before .before .before .before .before .if1 .left) (c .before .before .before .before .before .before .before .before .before .before .before .before .before .if2 .left)
+copy-requires-2 c κs = let a = c .before .before .before .before .before .before .before .before .before .before .before .before .before .before .before .before .before .before .before .before .before .args in (omega (arith, triples-few (a .m) (a .text .now) (a .heads .now) (a .triples .now) (c .before .before .before .before .before .before .before .before .before .before .before .before .before .before .before .before .before .measure .ensures) (c .before .before .before .before .before .before .before .before .before .before .before .before .before .before .before .if1 .left) (c .before .before .before .before .before .before .before .before .before .before .before .before .before .if2 .left), slice-aggregate-copy-2 (c .before)), triples-within (a .m) (a .text .now) (a .heads .now) (a .triples .now) (c .before .before .before .before .before .before .before .before .before .before .before .before .before .before .before .before .before .measure .ensures) (c .before .before .before .before .before .before .before .before .before .before .before .before .before .before .before .if1 .left) (c .before .before .before .before .before .before .before .before .before .before .before .before .before .if2 .left))
 
 same-length : tie.Need-same-length
 same-length c = search needs
