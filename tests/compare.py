@@ -22,6 +22,7 @@ import second
 
 TOP = Path(__file__).resolve().parent.parent
 NAMES = {"check": "pdcheck", "recheck": "pdrecheck"}
+PROGRAMS = {program: [str(TOP / "target" / "bin" / name)] for program, name in NAMES.items()}
 STACK = 8 << 20
 
 
@@ -39,7 +40,7 @@ COMMAND = command()
 
 def run(program, data, pieces=False, stack=STACK):
     """What the proved program prints for these bytes; in pieces, they come through a pipe a few at a time."""
-    words = COMMAND + [str(TOP / "target" / "bin" / NAMES[program])]
+    words = COMMAND + PROGRAMS[program]
 
     def limit():
         resource.setrlimit(resource.RLIMIT_STACK, (stack, resource.getrlimit(resource.RLIMIT_STACK)[1]))

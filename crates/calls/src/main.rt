@@ -203,11 +203,12 @@ fn answer(part: &[u8], numbers: Numbers) {
 
 // The place after the text that is announced at the front of s, or 0 where there is none.
 fn next(s: &[u8]) -> usize {
-    let e = text::find(s, b'\n');
+    let fields = numbers::read_fields(s);
+    let e = fields.end;
     if s.len() <= e {
         return 0;
     }
-    let numbers = numbers::read_numbers(&s[..e]);
+    let numbers = fields.numbers;
     if numbers.count == 0 {
         return 0;
     }

@@ -1,12 +1,18 @@
 -- Each contract of the other calls allows one outcome: two things equal to a third are equal. Assumes nothing.
 use mathlib.Core.Bool.{Bool}
 use mathlib.Core.List.{List}
-use mathlib.Core.Path.{_≡_, sym, ap, _∙_}
+use mathlib.Core.Path.{_≡_, refl, sym, ap, _∙_}
 use Prim.Native.Nat.{ℕ}
 use Rattle.text.specs.Put.{Put}
-use Rattle.ways.specs.Taken.{Arrays, arrays}
 use Rattle.model.specs.declared.Model.{Model}
 use Rattle.ranking.specs.Rank.{Ranked}
+use Rattle.limits.specs.declared.Counts.{Counts}
+use Rattle.draft.specs.declared.Outline.{Outline}
+use Rattle.draft.specs.declared.Noted.{Noted}
+use Rattle.draft.specs.Draft.{Taken}
+use Rattle.rows.specs.declared.Tally.{Tally}
+use Rattle.rows.specs.declared.End.{End}
+use Rattle.rows.specs.State.{Ended}
 use Rattle.refusal.specs.declared.Seen.{Seen}
 use Rattle.refusal.specs.Refusal.{Seeing}
 use Rattle.claims.specs.OneAnswer.{One, Both, OneAnswer}
@@ -14,13 +20,26 @@ use Rattle.claims.specs.OneAnswer.{One, Both, OneAnswer}
 equal : {A : Type 0} (x : A) → One (λ r. r ≡ x)
 equal x r r′ e e′ = e ∙ sym e′
 
+-- an outcome that can be taken out again of the whole that is equal to a third
+parted : {A B : Type 0} {whole : A → B} (part : B → A) → ((o : A) → part (whole o) ≡ o) → (x : B) → One (λ o. whole o ≡ x)
+parted part back x o o′ e e′ = sym (back o) ∙ ap part (e ∙ sym e′) ∙ back o′
+
+abbrev endOf : Ended → End × List ℕ × List ℕ
+endOf e =
+    let s = e .state in
+    let t : Tally = record { begun = s .begun; rounds = s .rounds; headcount = s .headcount; triplecount = s .triplecount; heads = s .heads; triples = s .triples } in
+    (record { refusal = e .refusal; line = e .line; tally = t }, s .headcells, s .triplecells)
+
+abbrev notedOf : Taken → Noted × List Bool × List Bool × List ℕ × List ℕ
+notedOf t =
+    let m = t .draft .model in
+    let k : Counts = record { symbols = m .symbols; states = m .states; events = m .events; started = t .draft .started; rules = m .rules; moves = m .moves } in
+    let o : Outline = record { counts = k; startstate = m .startstate; startsymbol = m .startsymbol } in
+    (record { refusal = t .refusal; outline = o }, m .finals, m .shows, m .rulerows, m .moverows)
+
 -- bytes put into lent memory
 put : (out : List ℕ) (at : ℕ) (s : List ℕ) → Both (λ r after. Put out after at r s)
 put out at s r r′ after after′ a b = (a .place ∙ sym (b .place), a .cells ∙ sym (b .cells))
-
--- two arrays
-cells : (c : Arrays) → Both (λ hs ts. arrays hs ts ≡ c)
-cells c hs hs′ ts ts′ e e′ = (ap (λ c. c .0) (e ∙ sym e′), ap (λ c. c .1) (e ∙ sym e′))
 
 -- a fact's cell
 ranked : (before : List ℕ) (fault : ℕ) (put : List ℕ) → Both (λ r after. Ranked before after fault put r)
@@ -39,8 +58,9 @@ pub each-answer : OneAnswer
 each-answer = record {
   find = λ s c. equal _;
   same = λ a b. equal _;
-  read-number = λ s. equal _;
-  read-numbers = λ s. equal _;
+  byte-at = λ s e. equal _;
+  is-stop = λ b. equal _;
+  read-fields = λ s. equal _;
   write-number = λ n. equal _;
   head-at = λ z heads q g. equal _;
   triple-at = λ z triples q g e. equal _;
@@ -55,13 +75,18 @@ each-answer = record {
   is-valid = λ m. equal _;
   rule-at = λ rulerows r. equal _;
   next-state = λ rulerows moverows shows r v q. equal _;
+  product = λ a b. equal _;
+  through = λ v b. equal _;
+  class-steps = λ moverows shows moves symbols. equal _;
+  class-of = λ rulerows r c c′ e e′. e .0 ∙ sym (e′ .0);
   read-line = λ s. equal _;
   refusal-of = λ k w a b c. equal _;
-  take-line = λ d l. equal _;
+  take-line = λ o finals shows rulerows moverows l. parted notedOf (λ x. refl) _;
   measure = λ m heads triples. equal _;
   rank-head = λ z begun cells q g rank. ranked cells _ _;
   rank-triple = λ z begun cells q g e rank. ranked cells _ _;
-  read-text = λ z text. equal _;
+  read-text = λ z heads triples text. parted endOf (λ x. refl) _;
+  listing-at = λ text. equal _;
   listing-of = λ text. equal _;
   model-part = λ text. equal _;
   place = λ n at. equal _;
@@ -73,9 +98,7 @@ each-answer = record {
   put-named = λ out at word numbers last. put out at _;
   has-head = λ z heads q g. equal _;
   next-kept = λ z heads triples q ρ n. equal _;
-  consequences = λ z ρ q p k heads triples hs hs′ ts ts′ e e′. cells _ hs hs′ ts ts′ (e (record { by-rule = 0; by-move = 0 })) (e′ (record { by-rule = 0; by-move = 0 }));
-  start = λ m heads triples. cells _;
-  round = λ m k heads triples. cells _;
+  rule-closed = λ triples heads steps ρ. equal _;
   explain = λ rules moves shows heads triples n f. equal _;
   front = λ out k. equal _;
   put-violation = λ m whole rounds count out steps. put out 0 _;

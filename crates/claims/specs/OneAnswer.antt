@@ -1,15 +1,16 @@
 -- The public calls that OneOutcome does not name: any two outcomes that a contract allows coincide. An entry a call, in its contract's own words.
 -- Assumes nothing.
-use mathlib.Core.Bool.{Bool}
+use mathlib.Core.Bool.{Bool, _||_}
 use mathlib.Core.List.{List, [], _∷_}
 use mathlib.Core.Path.{_≡_}
-use Prim.Native.Nat.{ℕ}
-use lib.ListN.{length, take}
+use Prim.Native.Nat.{ℕ, _<_}
+use lib.Dec.{eqb}
+use lib.ListN.{length, getD, take}
 use Rattle.product.specs.Lists.{over, upTo}
 use Rattle.product.specs.Product.{Step}
 use Rattle.product.specs.Facts.{head, consequences}
-use Rattle.text.specs.Split.{first, split, sameBytes}
-use Rattle.numbers.specs.Number.{numberOf, numbersOf}
+use Rattle.text.specs.Split.{first, sameBytes}
+use Rattle.numbers.specs.Field.{fieldsOf}
 use Rattle.numbers.specs.Digits.{digitsOf}
 use Rattle.table.specs.declared.Size.{Size}
 use Rattle.table.specs.Cells.{headCount, tripleCount, longEnough, headIn, tripleIn, putHead, putTriple, cleared, view}
@@ -21,22 +22,28 @@ use Rattle.model.specs.declared.Next.{Next}
 use Rattle.model.specs.Answers.{ruleAs, nextAs, meant, landed}
 use Rattle.model.specs.Model.{ruleAt, nextAt}
 use Rattle.model.specs.Valid.{valid}
+use Rattle.bits.specs.Matrix.{multiplied, image}
+use Rattle.steps.specs.Steps.{classOf, classSteps}
 use Rattle.line.specs.declared.Word.{Word}
 use Rattle.line.specs.declared.Line.{Line}
-use Rattle.line.specs.Line.{lineOf}
+use Rattle.line.specs.Line.{lineAt}
 use Rattle.limits.specs.declared.Counts as limits
 use Rattle.limits.specs.Limits.{refusal, tests}
-use Rattle.draft.specs.declared.Draft.{Draft}
+use Rattle.draft.specs.declared.Outline.{Outline}
+use Rattle.draft.specs.declared.Noted.{Noted}
+use Rattle.draft.specs.Draft.{whole, noted}
 use Rattle.draft.specs.Lines.{takeLine}
 use Rattle.fitting.specs.Fits.{fitOf}
 use Rattle.ranking.specs.Rank.{headFault, tripleFault, Ranked}
+use Rattle.rows.specs.declared.End.{End}
+use Rattle.rows.specs.State.{before, ended}
 use Rattle.rows.specs.Lines.{readText}
 use Rattle.splitter.specs.Part.{listingOf, modelPart}
+use Rattle.splitter.specs.Part as part
 use Rattle.print.specs.Bytes.{fieldBytes, lineBytes, namedBytes}
 use Rattle.text.specs.Put.{placeIn, Put}
 use Rattle.kept.specs.Kept.{inTable, nextKept}
-use Rattle.ways.specs.Taken.{arrays, allTaken}
-use Rattle.rounds.specs.Round.{startOf, roundOf}
+use Rattle.closed.specs.Closed.{ruleClosed}
 use Rattle.explain.specs.declared.Counts.{Counts}
 use Rattle.explain.specs.Answers.{foundAs, rankOf}
 use Rattle.explain.specs.Search.{whyIn, byRank}
@@ -46,7 +53,7 @@ use Rattle.refusal.specs.Refusal.{refusedBytes, Seeing}
 use Rattle.report.specs.Output.{checkOutput}
 use Rattle.rereport.specs.Output.{recheckOutput}
 
--- one outcome: an answer, or what is left in lent memory
+-- one outcome: an answer, what is left in lent memory, or an answer with what is left
 abbrev pub One : {A : Type 0} → (A → Type 0) → Type 0
 One {A} allows = (r r′ : A) → allows r → allows r′ → r ≡ r′
 
@@ -58,8 +65,9 @@ pub record OneAnswer : Type 0 where
   -- text
   pub find : (s : List ℕ) (c : ℕ) → One (λ r. r ≡ length (first c s))
   pub same : (a b : List ℕ) → One (λ r. r ≡ sameBytes a b)
-  pub read-number : (s : List ℕ) → One (λ r. r ≡ numberOf s)
-  pub read-numbers : (s : List ℕ) → One (λ r. r ≡ numbersOf (split 9 s))
+  pub byte-at : (s : List ℕ) (e : ℕ) → One (λ r. r ≡ getD s e 10)
+  pub is-stop : (b : ℕ) → One (λ r. r ≡ (eqb b 9 || eqb b 10))
+  pub read-fields : (s : List ℕ) → One (λ r. r ≡ fieldsOf s)
   pub write-number : (n : ℕ) → One (λ r. r ≡ digitsOf n)
   -- table
   pub head-at : (z : Size) (heads : List ℕ) (q g : ℕ) → One (λ r. r ≡ headIn (z .symbols) (z .states) heads q g)
@@ -77,19 +85,27 @@ pub record OneAnswer : Type 0 where
   pub is-valid : (m : Model) → One (λ b. b ≡ valid m)
   pub rule-at : (rulerows : List ℕ) (r : ℕ) → One (λ ρ. ρ ≡ ruleAs (ruleAt rulerows r))
   pub next-state : (rulerows moverows : List ℕ) (shows : List Bool) (r v q : ℕ) → One (λ n. n ≡ nextAs (nextAt rulerows moverows shows r v q))
+  -- bits
+  pub product : (a b : ℕ) → One (λ r. r ≡ multiplied a b)
+  pub through : (v b : ℕ) → One (λ r. r ≡ image v b)
+  -- steps
+  pub class-steps : (moverows : List ℕ) (shows : List Bool) (moves symbols : ℕ) → One (λ r. r ≡ classSteps moverows shows moves symbols)
+  pub class-of : (rulerows : List ℕ) (r : ℕ) → One (λ c. (c ≡ classOf rulerows r) × (c < 256))
   -- line
-  pub read-line : (s : List ℕ) → One (λ r. r ≡ lineOf (split 9 s))
+  pub read-line : (s : List ℕ) → One (λ r. r ≡ lineAt s)
   -- limits and draft
   pub refusal-of : (k : limits.Counts) (w : Word) (a b c : ℕ) → One (λ r. r ≡ refusal (tests k w a b c))
-  pub take-line : (d : Draft) (l : Line) → One (λ r. r ≡ takeLine d l)
+  pub take-line : (o : Outline) (finals shows : List Bool) (rulerows moverows : List ℕ) (l : Line)
+      → One {A = Noted × List Bool × List Bool × List ℕ × List ℕ} (λ x. noted (x .0) (x .1) (x .2) (x .3) (x .4) ≡ takeLine (whole o finals shows rulerows moverows) l)
   -- fitting, ranking and rows
   pub measure : (m : Model) (heads triples : ℕ) → One (λ r. r ≡ fitOf m heads triples)
   pub rank-head : (z : Size) (begun : ℕ) (cells : List ℕ) (q g rank : ℕ)
       → Both (λ r after. Ranked cells after (headFault z begun cells q g rank) (putHead (z .symbols) (z .states) cells q g rank) r)
   pub rank-triple : (z : Size) (begun : ℕ) (cells : List ℕ) (q g e rank : ℕ)
       → Both (λ r after. Ranked cells after (tripleFault z begun cells q g e rank) (putTriple (z .symbols) (z .states) cells q g e rank) r)
-  pub read-text : (z : Size) (text : List ℕ) → One (λ r. r ≡ readText z text)
+  pub read-text : (z : Size) (heads triples text : List ℕ) → One {A = End × List ℕ × List ℕ} (λ x. ended (x .0) (x .1) (x .2) ≡ readText z (before heads triples) text)
   -- splitter
+  pub listing-at : (text : List ℕ) → One (λ r. r ≡ part.place text)
   pub listing-of : (text : List ℕ) → One (λ part. part ≡ listingOf text)
   pub model-part : (text : List ℕ) → One (λ part. part ≡ modelPart text)
   -- print
@@ -103,11 +119,8 @@ pub record OneAnswer : Type 0 where
   -- kept
   pub has-head : (z : Size) (heads : List ℕ) (q g : ℕ) → One (λ b. b ≡ inTable z heads [] (head q g))
   pub next-kept : (z : Size) (heads triples : List ℕ) (q : ℕ) (ρ : Rule) (n : Next) → One (λ b. b ≡ nextKept (z .states) (inTable z heads triples) q (meant ρ) (landed n))
-  -- ways and rounds; a way is the same whatever step it is for
-  pub consequences : (z : Size) (ρ : Rule) (q p k : ℕ) (heads triples : List ℕ)
-      → Both (λ hs ts. (s : Step) → arrays hs ts ≡ allTaken z k (consequences (upTo (z .states)) s q p (meant ρ)) (arrays heads triples))
-  pub start : (m : Model) (heads triples : List ℕ) → Both (λ hs ts. arrays hs ts ≡ startOf m (arrays heads triples))
-  pub round : (m : Model) (k : ℕ) (heads triples : List ℕ) → Both (λ hs ts. arrays hs ts ≡ roundOf m k (arrays heads triples))
+  -- closed
+  pub rule-closed : (triples heads : List ℕ) (steps : ℕ) (ρ : Rule) → One (λ b. b ≡ ruleClosed triples heads steps (meant ρ))
   -- explain
   pub explain : (rules moves : List ℕ) (shows : List Bool) (heads triples : List ℕ) (n : Counts) (f : Goal)
       → One (λ w. w ≡ foundAs (byRank (whyIn rules moves shows (n .size .symbols) (n .size .states) heads triples (n .rules) (n .moves)) f (rankOf (view (n .size .symbols) (n .size .states) heads triples) f)))

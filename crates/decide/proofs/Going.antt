@@ -1,134 +1,171 @@
--- The rounds go on until there is an answer: what the arrays hold on the way, that it ends, and what is answered and left. Assumes nothing.
-use mathlib.Core.Bool.{Bool, true, false, not}
-use mathlib.Core.List.{List, _++_}
+-- The rounds go on until there is an answer. Assumes nothing.
+use mathlib.Core.Bool.{Bool, true, false, not, _&&_}
+use mathlib.Core.List.{List}
 use mathlib.Core.Option.{Option, none, some}
-use mathlib.Core.Path.{_≡_, refl, sym, ap, _∙_, subst⁻¹}
-use Prim.Native.Nat.{ℕ, suc, _+_, _<_, _≤_}
+use mathlib.Core.Path.{_≡_, refl, sym, ap, _∙_, subst, subst⁻¹}
+use Prim.Native.Nat.{ℕ, zero, suc, _+_, _*_, _%_, _^_, _<_, _≤_}
 use native.Mathlib.Decide.{ℕ-discrete}
 use native.Mathlib.Numerals.{add-one}
 use native.Mathlib.Omega.{arith}
-use lib.Dec.{T}
-use lib.ListN.{length}
-use borrow.Author.Tests.{not-true, not-false}
-use Rattle.product.specs.Lists.{upTo}
-use Rattle.product.specs.Table.{absent, ranks, left}
-use Rattle.product.specs.Verdict.{violated, adds, Verdict, violation, safe, rounds, GoesOn, ran}
-use Rattle.product.proofs.Lists.{length-upTo}
-use Rattle.product.proofs.Verdict.{goes-bound, stopped}
+use lib.Dec.{T, eqb, eqb→eq, eqb-refl}
+use lib.ListN.{length, replicate}
+use Rattle.product.specs.Lists.{upTo, _∈_}
+use Rattle.product.specs.Product.{Product}
+use Rattle.product.specs.Facts.{head, same, first}
+use Rattle.product.specs.Rounds.{grown, held}
+use Rattle.product.specs.Verdict.{violated, adds, Verdict, violation, safe, rounds, GoesOn, ran, answer}
+use Rattle.product.proofs.Lists.{length-upTo, upTo-lt, and-right}
+use Rattle.product.proofs.Verdict.{goes-bound, stopped, violated-by}
 use Rattle.product.proofs.Budget.{Stands, decided, undecided, answer-stands, answer-of}
 use Rattle.product.proofs.Demands.{bound-small}
-use Rattle.product.specs.Verdict as product
-use Rattle.table.specs.Cells.{headsOf, triplesOf}
-use Rattle.table.proofs.LaidOut.{heads-laid, triples-laid}
-use Rattle.culprit.specs.Culprit.{cleanIn}
-use Rattle.culprit.proofs.Found.{clean-held}
-use Rattle.model.specs.declared.Model.{Model}
-use Rattle.model.specs.Model.{productOf}
-use Rattle.model.proofs.Valid.{product-in, valid-sizes}
-use Rattle.model.proofs.Bounds.{start-state-in, start-symbol-in}
-use Rattle.ways.specs.Taken.{Arrays, arrays, tableOf}
-use Rattle.rounds.specs.Round.{Long, sizeOf, startOf, roundOf}
-use Rattle.rounds.proofs.InPlace.{Became, became-same, became-long, became-then, became-round, became-start}
+use Rattle.table.specs.declared.Size.{Size}
+use Rattle.bits.specs.Bit.{bit}
+use Rattle.bits.proofs.Set.{bit-pow, one-shifted}
 use Rattle.decide.specs.declared.Decision.{Decision}
 use Rattle.decide.specs.declared.Decision.the-variants.{Violation, Safe, Spent}
 use Rattle.decide.specs.Decided.{meaning, within}
-use Rattle.decide.specs.Look.{quiet, Ready, Ran}
-use Rattle.decide.proofs.Looked.{quiet-is}
+use Rattle.decide.specs.Stamp.{of-heads, of-triples}
+use Rattle.decide.specs.Standing.{Begins, Standing, Kept}
+use Rattle.decide.specs.Turn.{Uses, Turns, After, TurnDone}
+use Rattle.decide.specs.Driven.{violations, Finals, Starts, Driving, Answers, Driven}
+use Rattle.decide.proofs.Found.{found, not-found}
 
-T-of : (b : Bool) → not b ≡ false → T b
-T-of b e = rw (not-false b e) tt
-
--- after round n: the arrays hold the ranks up to n, and the rounds before it went on
-pub record Going (m : Model) (budget : ℕ) (before : Arrays) (n : ℕ) (now : Arrays) : Type 0 where
-  pub table : Became (sizeOf m) before (ranks (productOf m) n) now
-  pub goes : (k : ℕ) → k < n → GoesOn (productOf m) k
+-- After round n: what stands, with the rules for the next; the rounds before it went on; `more` tells whether it added a fact, and of the symbols
+-- that are not in `changed` no head is in a final state.
+pub record At (p : Product) (z : Size) (budget : ℕ) (rs sy tg hs ts : List ℕ) (n more changed : ℕ) (wt wh by e hd hs′ ts′ : List ℕ) : Type 0 where
+  pub begins : Begins p z n wt wh rs sy tg by e hd hs′ ts′
+  pub triples-kept : Kept of-triples z ts ts′
+  pub heads-kept : Kept of-heads z hs hs′
+  pub idle : more ≡ 0 → T (not (adds p n))
+  pub busy : (more ≡ 0 → ⊥) → T (adds p n)
+  pub low : (s : ℕ) → T (bit changed s) → s < 32
+  pub others : (q s : ℕ) → bit changed s ≡ false → T (held p n (head q s)) → T (not (p .final q))
+  pub goes : (k : ℕ) → k < n → GoesOn p k
   pub in-budget : n ≤ budget
 
--- hs and ts are the arrays as they came, hs₁ and ts₁ after round 0
-module _ {m : Model} {hs ts hs₁ ts₁ : List ℕ} (r : Ready m hs ts) (e : arrays hs₁ ts₁ ≡ startOf m (arrays hs ts)) where
-  zeroth : Became (sizeOf m) (arrays hs ts) (ranks (productOf m) 0) (arrays hs₁ ts₁)
-  zeroth = subst⁻¹ (Became (sizeOf m) (arrays hs ts) (ranks (productOf m) 0)) e (became-start m (r .valid-model) (arrays hs ts) (r .long))
+not-of : (b : Bool) → (T b → ⊥) → T (not b)
+not-of false h = tt
+not-of true h = h tt
 
-  pub from-start : (budget : ℕ) → Going m budget (arrays hs₁ ts₁) 0 (arrays hs₁ ts₁)
-  from-start budget = record { table = became-same (sizeOf m) (arrays hs₁ ts₁) (ranks (productOf m) 0) (zeroth .is); goes = λ k l. absurd (omega arith); in-budget = omega arith }
+module _ (z : Size) (fins q g : ℕ) (wt₀ wh₀ rs sy tg us e₀ hd₀ hs ts : List ℕ) (budget : ℕ) where
+  -- for every product that the arrays hold
+  abbrev pub Going : (n more changed : ℕ) (wt wh by e hd hs′ ts′ : List ℕ) → Type 0
+  Going n more changed wt wh by e hd hs′ ts′ =
+      (p : Product) → Starts p z fins q g wt₀ wh₀ rs sy tg us e₀ hd₀ hs ts → At p z budget rs sy tg hs ts n more changed wt wh by e hd hs′ ts′
 
-  -- the rounds are few, since each has added a fact
-  few : (n : ℕ) → ((k : ℕ) → k < n → GoesOn (productOf m) k) → n ≤ 2304
-  few n h = omega (arith, goes-bound (productOf m) (product-in m (r .valid-model)) n h, bound-small (productOf m) (valid-sizes m (r .valid-model) .symbols) states)
+  -- the numbers are in range
+  pub small-state : Driving z fins q g wt₀ wh₀ rs sy tg us e₀ hd₀ hs ts → q < 8
+  small-state (p, s) =
+      let a = s .begins .arrays in
+      omega (arith, s .state-is, a .frame .few-states, upTo-lt (z .states) (p .start-state) (subst (λ l. p .start-state ∈ l) (a .frame .states-are) (a .in-range .state-in)))
+
+  pub small-symbol : Driving z fins q g wt₀ wh₀ rs sy tg us e₀ hd₀ hs ts → g < 32
+  small-symbol (p, s) = omega (arith, s .symbol-is, s .begins .arrays .in-range .symbol-in, s .begins .arrays .symbols-are, s .begins .standing .triples-room .few)
+
+  pub going-first : Driving z fins q g wt₀ wh₀ rs sy tg us e₀ hd₀ hs ts → Going 0 1 ((1 * 2 ^ g) % 2 ^ 64) wt₀ wh₀ (replicate {A = ℕ} 256 0) e₀ hd₀ hs ts
+  unfolding adds grown
+  going-first d p s = record {
+    begins = s .begins;
+    triples-kept = record { as-long = refl; past = refl };
+    heads-kept = record { as-long = refl; past = refl };
+    idle = λ x. absurd (omega arith);
+    busy = λ _. tt;
+    low = λ x t. subst (λ n. n < 32) (eqb→eq g x (subst T (start-bit x) t)) (small-symbol d);
+    others = λ q′ x c h.
+        let i : p .start-symbol ≡ x = eqb→eq (p .start-symbol) x (and-right (eqb (p .start-state) q′) (eqb (p .start-symbol) x) h) in
+        absurd (subst T (sym (ap (λ x. bit ((1 * 2 ^ g) % 2 ^ 64) x) (sym i ∙ sym (s .symbol-is)) ∙ start-bit g) ∙ c) (eqb-refl g));
+    goes = λ k l. absurd (omega arith);
+    in-budget = omega arith;
+  }
     where
-      states : length (upTo (m .states)) ≤ 8
-      states = omega (arith, length-upTo (m .states), valid-sizes m (r .valid-model) .states)
+      start-bit : (x : ℕ) → bit ((1 * 2 ^ g) % 2 ^ 64) x ≡ eqb g x
+      start-bit x = ap (λ n. bit n x) (one-shifted 64 g (let l = small-symbol d in omega arith)) ∙ bit-pow g x
 
-  -- and hs′ and ts′ after round n
-  module _ {budget n : ℕ} {hs′ ts′ : List ℕ} (g : Going m budget (arrays hs₁ ts₁) n (arrays hs′ ts′)) where
-    whole : Became (sizeOf m) (arrays hs ts) (ranks (productOf m) n) (arrays hs′ ts′)
-    whole = became-then (sizeOf m) zeroth (g .table)
+  module _ (n more changed : ℕ) (wt wh by e hd hs′ ts′ : List ℕ) (G : Going n more changed wt wh by e hd hs′ ts′) where
+    pub changed-low : Driving z fins q g wt₀ wh₀ rs sy tg us e₀ hd₀ hs ts → (s : ℕ) → T (bit changed s) → s < 32
+    changed-low (p, s) = G p s .low
 
-    long : Long (sizeOf m) (arrays hs′ ts′)
-    long = became-long (sizeOf m) (r .long) whole
+    -- the rounds are few, since each has added a fact
+    few : (p : Product) → Starts p z fins q g wt₀ wh₀ rs sy tg us e₀ hd₀ hs ts → (n : ℕ) → ((k : ℕ) → k < n → GoesOn p k) → n ≤ 2304
+    few p s n h =
+        let a = s .begins .arrays in
+        omega (
+          arith,
+          goes-bound p (a .in-range) n h,
+          bound-small p (omega (arith, a .symbols-are, s .begins .standing .triples-room .few))
+              (omega (arith, ap length (a .frame .states-are), length-upTo (z .states), a .frame .few-states)),
+        )
 
-    small : n < absent
-    small = omega (arith, few n (g .goes))
+    module _ (r : ℕ) (r-is : (x : ℕ) → bit r x ≡ violations fins changed hd e q g x) where
+      bits-at : (p : Product) → Starts p z fins q g wt₀ wh₀ rs sy tg us e₀ hd₀ hs ts
+          → (x : ℕ) → bit r x ≡ violations fins changed hd e (p .start-state) (p .start-symbol) x
+      bits-at p s x = r-is x ∙ ap (λ q. violations fins changed hd e q g x) (s .state-is) ∙ ap (λ g. violations fins changed hd e (p .start-state) g x) (s .symbol-is)
 
-    -- what is answered and left, if n are the rounds that the answer has run
-    answered : (d : Decision) (o : Option Verdict) → product.answer (productOf m) budget ≡ o → meaning d ≡ within budget o → ran budget o ≡ n → Ran m budget hs ts d hs′ ts′
-    answered d o x y z =
-        let t : tableOf (sizeOf m) (arrays hs′ ts′) ≡ left (productOf m) budget = whole .is ∙ ap (ranks (productOf m)) (sym (ap (ran budget) x ∙ z)) in
-        record {
-          answer = y ∙ ap (within budget) (sym x);
-          heads =
-              heads-laid (m .symbols) (m .states) hs′ ts′ (left (productOf m) budget) (long .heads) t
-              ∙ ap (λ xs. headsOf (m .symbols) (m .states) (left (productOf m) budget) ++ xs) (whole .heads-past);
-          triples =
-              triples-laid (m .symbols) (m .states) hs′ ts′ (left (productOf m) budget) (long .triples) t
-              ∙ ap (λ xs. triplesOf (m .symbols) (m .states) (left (productOf m) budget) ++ xs) (whole .triples-past);
-        }
+      answered : (p : Product) (s : Starts p z fins q g wt₀ wh₀ rs sy tg us e₀ hd₀ hs ts) (d : Decision) (o : Option Verdict) → meaning d ≡ within budget o → o ≡ answer p budget → ran budget o ≡ n
+          → Answers p z hs ts budget d e hd hs′ ts′
+      answered p s d o w x y = record {
+        answer-is = w ∙ ap (within budget) x;
+        standing = subst (λ m. Standing p z m e hd hs′ ts′) (sym (ap (ran budget) (sym x) ∙ y)) (G p s .begins .standing);
+        triples-kept = G p s .triples-kept;
+        heads-kept = G p s .heads-kept;
+      }
 
-    -- b is what the look for violating facts gave
-    module _ {b : Bool} (looked : b ≡ cleanIn (m .finals) (m .symbols) (m .states) hs′ ts′ (m .startstate) (m .startsymbol)) where
-      is-clean : not (violated (productOf m) n) ≡ b
-      is-clean =
-          sym (clean-held (productOf m) (m .finals) (m .states) refl (λ _. refl) hs′ ts′ (start-state-in m (r .valid-model)) (start-symbol-in m (r .valid-model)) n small (whole .is))
-          ∙ sym looked
+      pub violates : (r ≡ 0 → ⊥) → Driven z fins q g wt₀ wh₀ rs sy tg us e₀ hd₀ hs ts budget (Violation n) e hd hs′ ts′
+      violates k p s =
+          let b = G p s in
+          answered p s (Violation n) (some (violation n)) refl
+          (sym (answer-of p budget (violation n) (b .goes, found p z n wt wh rs sy tg by e hd hs′ ts′ (b .begins) fins (s .finals) changed (b .low) r (bits-at p s) k) (b .in-budget))) refl
 
-      pub violates : not b ≡ true → Ran m budget hs ts (Violation n) hs′ ts′
-      violates h = answered (Violation n) (some (violation n)) (answer-of (productOf m) budget (violation n) (g .goes, T-of (violated (productOf m) n) (is-clean ∙ not-true b h)) (g .in-budget)) refl refl
+      module _ (clean : r ≡ 0) where
+        unviolated : (p : Product) → Starts p z fins q g wt₀ wh₀ rs sy tg us e₀ hd₀ hs ts → T (not (violated p n))
+        unviolated p s = not-found p z n wt wh rs sy tg by e hd hs′ ts′ (G p s .begins) fins (s .finals) changed (G p s .low) r (bits-at p s) (G p s .others) clean
 
-      -- and q what the look for added facts gave
-      module _ (h : not b ≡ false) {q : Bool} (sought : q ≡ quiet (sizeOf m) hs′ ts′ n) where
-        unviolated : T (not (violated (productOf m) n))
-        unviolated = rw (is-clean ∙ not-false b h) tt
+        pub is-safe : more ≡ 0 → Driven z fins q g wt₀ wh₀ rs sy tg us e₀ hd₀ hs ts budget (Safe n) e hd hs′ ts′
+        is-safe x p s =
+            let b = G p s in
+            answered p s (Safe n) (some (safe n)) refl (sym (answer-of p budget (safe n) (b .goes, (unviolated p s, b .idle x)) (b .in-budget))) refl
 
-        is-quiet : not (adds (productOf m) n) ≡ q
-        is-quiet = sym (quiet-is m (r .valid-model) n small hs′ ts′ (whole .is)) ∙ sym sought
-
-        pub is-safe : q ≡ true → Ran m budget hs ts (Safe n) hs′ ts′
-        is-safe x = answered (Safe n) (some (safe n)) (answer-of (productOf m) budget (safe n) (g .goes, (unviolated, rw (is-quiet ∙ x) tt)) (g .in-budget)) refl refl
-
-        module _ (x : q ≡ false) where
-          goes-on : (k : ℕ) → k < suc n → GoesOn (productOf m) k
-          goes-on k l = at (ℕ-discrete k n)
+        module _ (x : more ≡ 0 → ⊥) where
+          goes-on : (p : Product) → Starts p z fins q g wt₀ wh₀ rs sy tg us e₀ hd₀ hs ts → (k : ℕ) → k < suc n → GoesOn p k
+          goes-on p s k l = at (ℕ-discrete k n)
             where
-              at : Dec (k ≡ n) → GoesOn (productOf m) k
-              at (yes i) = subst⁻¹ (GoesOn (productOf m)) i (unviolated, T-of (adds (productOf m) n) (is-quiet ∙ x))
-              at (no i) = g .goes k (omega arith)
+              at : Dec (k ≡ n) → GoesOn p k
+              at (yes i) = subst⁻¹ (GoesOn p) i (unviolated p s, G p s .busy x)
+              at (no i) = G p s .goes k (omega arith)
 
-          pub is-spent : budget ≤ n → Ran m budget hs ts (Spent budget) hs′ ts′
-          is-spent l = answered (Spent budget) none (go (product.answer (productOf m) budget) (answer-stands (productOf m) budget)) refl (omega (arith, g .in-budget))
+          pub is-spent : budget ≤ n → Driven z fins q g wt₀ wh₀ rs sy tg us e₀ hd₀ hs ts budget (Spent budget) e hd hs′ ts′
+          is-spent l p s = answered p s (Spent budget) none refl (sym (go (answer p budget) (answer-stands p budget))) (omega (arith, G p s .in-budget))
             where
-              go : (o : Option Verdict) → Stands (productOf m) (suc budget) o → o ≡ none
-              go _ (decided v i k) = absurd (stopped (productOf m) v (i .1) (goes-on (rounds v) (omega (arith, g .in-budget))))
+              go : (o : Option Verdict) → Stands p (suc budget) o → o ≡ none
+              go _ (decided v i k) = absurd (stopped p v (i .1) (goes-on p s (rounds v) (omega (arith, G p s .in-budget))))
               go _ (undecided _) = refl
 
-          pub room : n < 2304
-          room = few (suc n) goes-on
+          pub room : Driving z fins q g wt₀ wh₀ rs sy tg us e₀ hd₀ hs ts → n < 2304
+          room (p, s) = few p s (suc n) (goes-on p s)
 
-          pub next : {c : Arrays} → n < budget → c ≡ roundOf m (n + 1) (arrays hs′ ts′) → Going m budget (arrays hs₁ ts₁) (n + 1) c
-          next {c} l y =
+          pub turns : Driving z fins q g wt₀ wh₀ rs sy tg us e₀ hd₀ hs ts → Turns z (n + 1) wt wh rs sy tg us by e hd hs′ ts′
+          turns (p, s) = (p, n, add-one n, G p s .begins, s .uses)
+
+          -- no head of the round before is in a final state
+          not-final : (p : Product) → Starts p z fins q g wt₀ wh₀ rs sy tg us e₀ hd₀ hs ts → (q′ s′ : ℕ) → T (held p n (head q′ s′)) → T (not (p .final q′))
+          not-final p s q′ s′ h = not-of (p .final q′) (λ t. T-not′ (violated p n) (unviolated p s) (violated-by p (G p s .begins .arrays .in-range) n (head q′ s′) t h))
+            where
+              T-not′ : (b : Bool) → T (not b) → T b → ⊥
+              T-not′ true u t = u
+
+          pub next : {more′ changed′ : ℕ} {wt′ wh′ by′ nh′ e′ hd′ hs″ ts″ : List ℕ} → n < budget
+              → TurnDone z (n + 1) wt wh rs sy tg us by e hd hs′ ts′ more′ changed′ wt′ wh′ by′ nh′ e′ hd′ hs″ ts″ → Going (n + 1) more′ changed′ wt′ wh′ by′ e′ hd′ hs″ ts″
+          next l t p s =
+              let b = G p s in
+              let a = t .turned p n (add-one n) (b .begins) (s .uses) in
               rw add-one (record {
-                table = became-then (sizeOf m) (g .table)
-                    (subst⁻¹ (Became (sizeOf m) (arrays hs′ ts′) (ranks (productOf m) (suc n))) (rw add-one at y)
-                    (became-round m (r .valid-model) n (omega (arith, room)) (arrays hs′ ts′) long (whole .is)));
-                goes = goes-on;
+                begins = a .begins;
+                triples-kept = record { as-long = a .triples-kept .as-long ∙ b .triples-kept .as-long; past = a .triples-kept .past ∙ b .triples-kept .past };
+                heads-kept = record { as-long = a .heads-kept .as-long ∙ b .heads-kept .as-long; past = a .heads-kept .past ∙ b .heads-kept .past };
+                idle = a .idle;
+                busy = a .busy;
+                low = a .low;
+                others = λ q′ s′ c h. not-final p s q′ s′ (a .quiet q′ s′ c h);
+                goes = goes-on p s;
                 in-budget = l;
               })

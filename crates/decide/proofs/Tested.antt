@@ -12,7 +12,7 @@ use Rattle.model.specs.Valid.{valid}
 use Rattle.decide.specs.declared.Decision.{Decision}
 use Rattle.decide.specs.declared.Decision.the-variants.{Invalid, Short}
 use Rattle.decide.specs.Decided.{longEnough, decision, headsLeft, triplesLeft, Decided}
-use Rattle.decide.specs.Look.{Ready, Ran}
+use Rattle.decide.specs.Ran.{Able, Ran}
 
 -- b is the answer to whether the model is valid
 module _ (m : Model) (budget : ℕ) (hs ts : List ℕ) {b : Bool} (tested : b ≡ valid m) where
@@ -34,10 +34,10 @@ module _ (m : Model) (budget : ℕ) (hs ts : List ℕ) {b : Bool} (tested : b �
         is-long : longEnough m (length hs) (length ts) ≡ true
         is-long = sym measured ∙ not-false k l
 
-        pub ready : Ready m hs ts
-        ready =
+        pub able : Able m hs ts
+        able =
             let (a, b) = long-exactly (m .symbols) (m .states) (length hs) (length ts) .0 (subst T (sym is-long) tt) in
-            record { valid-model = subst T (sym is-valid) tt; long = record { heads = a; triples = b } }
+            record { valid-model = subst T (sym is-valid) tt; heads-long = a; triples-long = b }
 
         pub done : {r : Decision} {hs′ ts′ : List ℕ} → Ran m budget hs ts r hs′ ts′ → Decided m budget hs ts r hs′ ts′
         unfolding decision headsLeft triplesLeft

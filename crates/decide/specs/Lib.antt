@@ -1,2 +1,12 @@
 pub mod Decided
-pub mod Look
+pub mod Sets
+pub mod Stamp
+pub mod Gather
+pub mod Take
+pub mod Show
+pub mod Frame
+pub mod Standing
+pub mod Turn
+pub mod Driven
+pub mod Build
+pub mod Ran

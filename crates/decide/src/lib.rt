@@ -1,11 +1,12 @@
 // The decision: rounds over the two lent arrays until a violating fact is held, a round adds nothing, or the budget is spent.
 ghost use mathlib.Core.Path.{_≡_};
-ghost use Prim.Native.Nat.{_≤_};
-ghost use lib.ListN.{length};
-ghost use Rattle.ways.specs.Taken.{arrays};
-ghost use Rattle.rounds.specs.Round.{Long};
 ghost use Rattle.decide.specs.Decided.{Decided};
-ghost use Rattle.decide.specs.Look.{without, quiet, Ready, Ran};
+ghost use Rattle.decide.specs.Ran.{Able, Started, Ran};
+use crate::build::exits;
+use crate::build::final_states;
+use crate::build::symbols;
+use crate::build::uses;
+use crate::sets::collect;
 use model::Model;
 use table::Size;
 
@@ -18,35 +19,25 @@ pub enum Decision {
     Spent(u32),
 }
 
-// None of the first n cells has the number k.
-fn without(cells: &[u16], n: usize, k: u16) -> bool
-    requires { ⌜ n ≤ length (now cells) ⌝ }
-    ensures { λ b. ⌜ b ≡ without (now (cells .entry)) n k ⌝ }
-{
-    let mut i: usize = 0;
-    while i < n {
-        if cells[i] == k {
-            return false;
-        }
-        i += 1;
-    }
-    true
-}
+mod sets; // sets of rules and of classes
+mod stamps; // the ranks of new facts
+mod triples; // a round of the triples
+mod heads; // a round of the heads
+mod rounds; // the rounds
+mod build; // what they are run on
 
-// Round k has added nothing.
-fn quiet<'a>(heads: &'a [u16], triples: &'a [u16], size: Size, k: u16) -> bool
-    requires { ⌜ Long size (arrays (now heads) (now triples)) ⌝ }
-    ensures { λ b. ⌜ b ≡ quiet size (now (heads .entry)) (now (triples .entry)) k ⌝ }
+// Round 0 in the arrays: the start head alone.
+fn start(heads: &mut [u16], triples: &mut [u16], size: Size, q: usize, g: usize)
+    ensures { λ _. ⌜ Started size q g (now (heads .entry)) (now (triples .entry)) (now (heads .exit)) (now (triples .exit)) ⌝ }
 {
-    if !without(heads, table::head_count(size), k) {
-        return false;
-    }
-    without(triples, table::triple_count(size), k)
+    table::clear(heads, table::head_count(size));
+    table::clear(triples, table::triple_count(size));
+    table::put_head(heads, size, q, g, 0);
 }
 
 // The rounds of a valid model, in arrays that are long enough.
 fn run(heads: &mut [u16], triples: &mut [u16], m: Model, budget: u32) -> Decision
-    requires { ⌜ Ready m (now heads) (now triples) ⌝ }
+    requires { ⌜ Able m (now heads) (now triples) ⌝ }
     ensures { λ r. ⌜ Ran m budget (now (heads .entry)) (now (triples .entry)) r (now (heads .exit)) (now (triples .exit)) ⌝ }
 {
     let size = Size {
@@ -55,21 +46,33 @@ fn run(heads: &mut [u16], triples: &mut [u16], m: Model, budget: u32) -> Decisio
     };
     let q = m.startstate as usize;
     let g = m.startsymbol as usize;
-    rounds::start(heads, triples, m);
-    let mut n: u16 = 0;
-    loop {
-        if !culprit::is_clean(&m.finals, heads, triples, size, q, g) {
-            return Decision::Violation(n);
-        }
-        if quiet(heads, triples, size, n) {
-            return Decision::Safe(n);
-        }
-        if budget <= n as u32 {
-            return Decision::Spent(budget);
-        }
-        n += 1;
-        rounds::round(heads, triples, m, n);
-    }
+    start(heads, triples, size, q, g);
+    let tg = steps::class_steps(&m.moverows, &m.shows, m.moves, m.symbols as usize);
+    let sy = symbols();
+    let us = uses(&m.rulerows, m.rules);
+    let first = exits(&m.rulerows, m.rules);
+    let second = collect(&us, 64, 1u64 << (g as u64), [0u64; 4]);
+    let fins = final_states(&m.finals);
+    let mut e = [0u64; 32];
+    let mut hd = [0u64; 32];
+    hd[g] = 1u64 << (q as u64);
+    rounds::run(
+        size,
+        fins,
+        q,
+        g,
+        first,
+        second,
+        &m.rulerows,
+        &sy,
+        &tg,
+        &us,
+        &mut e,
+        &mut hd,
+        heads,
+        triples,
+        budget,
+    )
 }
 
 // Decides a model within a budget of rounds, and leaves in the arrays the ranks of the facts held. Nothing is written on 6 and 7.

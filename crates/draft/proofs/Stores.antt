@@ -1,20 +1,12 @@
--- A line that is taken leaves what it says; and a truth past its list is not set. Assumes nothing.
+-- A line that is taken leaves what it says. Assumes nothing.
 use mathlib.Core.Path.{_≡_, refl}
-use Prim.Native.Nat.{ℕ, _+_, _*_, _≤_}
-use lib.ListN.{length, getD}
-use lib.Seq.{set-out}
+use lib.ListN.{getD}
 use borrow.Author.Tests.{eq-eqb}
 use Rattle.line.specs.declared.Line.{Line}
 use Rattle.limits.specs.Limits.{Fits}
 use Rattle.limits.proofs.Passed.{fits}
-use Rattle.draft.specs.declared.Draft.{Draft}
-use Rattle.draft.specs.Lines.{countsOf, finalLine, eventLine, after, takeLine}
-
-pub final-past : (d : Draft) (q : ℕ) → length (d .model .finals) ≤ q → d ≡ finalLine d q
-final-past d q h = rw (set-out _ _ _ h)
-
-pub event-past : (d : Draft) (g e : ℕ) → length (d .model .shows) ≤ g * 16 + e → d ≡ eventLine d g e
-event-past d g e h = rw (set-out _ _ _ h)
+use Rattle.draft.specs.Draft.{Draft}
+use Rattle.draft.specs.Lines.{countsOf, after, takeLine}
 
 -- a line that is taken fits, and leaves what it says
 pub gone-on : (d : Draft) (l : Line) → takeLine d l .refusal ≡ 0

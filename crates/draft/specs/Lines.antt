@@ -11,8 +11,7 @@ use Rattle.line.specs.declared.Word.the-variants.{Size, Start, Final, Event, Ex
 use Rattle.limits.specs.declared.Counts.{Counts}
 use Rattle.limits.specs.Limits.{refusal, tests}
 use Rattle.model.specs.declared.Model.{Model}
-use Rattle.draft.specs.declared.Draft.{Draft}
-use Rattle.draft.specs.declared.Taken.{Taken}
+use Rattle.draft.specs.Draft.{Draft, Taken}
 
 -- what a line is tested against
 abbrev pub countsOf : Draft → Counts

@@ -1,4 +1,5 @@
 -- Laws about the definitions of specs/. Assumes nothing.
-pub mod Fields
 pub mod Malformed
 pub mod Words
+pub mod Spelled
+pub mod Fields

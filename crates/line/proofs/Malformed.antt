@@ -36,3 +36,16 @@ malformed-only (w ∷ f ∷ fs) e = go (wordOf w) (numbersOf (f ∷ fs)) (none-w
     go v n h true p e =
         ap (λ x. record { word = x; numbers = n }) e ∙ ap (λ x. record { word = Malformed; numbers = x }) (h (eqb-true (n .count) (wants v) p ∙ ap wants e))
     go v n h false p e = refl
+
+-- and so has a line that begins with no word
+pub no-line : (w : List ℕ) (fs : List (List ℕ)) → wordOf w ≡ Malformed → lineOf (w ∷ fs) ≡ malformed
+unfolding lineOf
+no-line w fs e = malformed-only (w ∷ fs) (none fs)
+  where
+    none : (fs : List (List ℕ)) → lineOf (w ∷ fs) .word ≡ Malformed
+    none [] = refl
+    none (f ∷ fs) = go (eqb (numbersOf (f ∷ fs) .count) (wants (wordOf w)))
+      where
+        go : (b : Bool) → pick b (record { word = wordOf w; numbers = numbersOf (f ∷ fs) }) malformed .word ≡ Malformed
+        go true = e
+        go false = refl

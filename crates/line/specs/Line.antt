@@ -1,12 +1,14 @@
 -- What one line of a model text or a listing says: its word and its numbers. Assumes nothing.
 use mathlib.Core.List.{List, [], _∷_}
 use Prim.Native.Nat.{ℕ}
-use lib.Dec.{eqb}
-use Rattle.text.specs.Split.{pick, sameBytes}
+use lib.Dec.{T, eqb}
+use lib.ListN.{length}
+use Rattle.text.specs.Split.{pick, first, split, without, sameBytes}
 use Rattle.numbers.specs.Number.{wrong, numbersOf}
 use Rattle.line.specs.declared.Word.{Word}
 use Rattle.line.specs.declared.Word.the-variants.{Size, Start, Final, Event, Exit, Direct, Call, Move, Safe, Head, Erase, Malformed}
 use Rattle.line.specs.declared.Line.{Line}
+use Rattle.line.specs.declared.LineRead.{LineRead}
 
 -- "size"
 abbrev pub size : List ℕ
@@ -68,6 +70,25 @@ wordOf s =
     (pick (sameBytes s erase) Erase
     Malformed))))))))))
 
+-- a spelling has no tab and no line feed
+abbrev pub Plain : List ℕ → Type 0
+Plain s = T (without 9 s) × T (without 10 s)
+
+-- how many letters a word has
+abbrev pub letters : Word → ℕ
+letters Size = 4
+letters Start = 5
+letters Final = 5
+letters Event = 5
+letters Exit = 4
+letters Direct = 6
+letters Call = 4
+letters Move = 4
+letters Safe = 4
+letters Head = 4
+letters Erase = 5
+letters Malformed = 0
+
 -- how many numbers come after it
 abbrev pub wants : Word → ℕ
 wants Size = 3
@@ -92,3 +113,7 @@ unfoldable pub lineOf : List (List ℕ) → Line
 lineOf [] = malformed
 lineOf (w ∷ []) = malformed
 lineOf (w ∷ f ∷ fs) = pick (eqb (numbersOf (f ∷ fs) .count) (wants (wordOf w))) (record { word = wordOf w; numbers = numbersOf (f ∷ fs) }) malformed
+
+-- the line that a text begins with, up to its line feed, and where it ends
+abbrev pub lineAt : List ℕ → LineRead
+lineAt s = record { line = lineOf (split 9 (first 10 s)); end = length (first 10 s) }

@@ -3,14 +3,17 @@ use mathlib.Core.Path.{_≡_, sym, ap, _∙_}
 use mathlib.Core.List.{List}
 use Prim.Native.Nat.{ℕ, _≤_}
 use native.Mathlib.Omega.{arith}
-use lib.ListN.{length}
+use lib.ListN.{length, replicate}
 use borrow.Author.Tests.{eq-eqb, ne-eqb}
 use Rattle.model.specs.declared.Model.{Model}
+use Rattle.model.proofs.Bounds.{few-heads, few-triples}
 use Rattle.fitting.specs.declared.Fit.{Fit}
 use Rattle.fitting.specs.Fits.{headsOf, triplesOf, fitOf, Fits}
 use Rattle.fitting.proofs.Tested.{is-invalid, is-short, is-well, heads-are, triples-are, tested-well}
-use Rattle.rows.specs.declared.Ended.{Ended}
-use Rattle.listing.specs.Reading.{linesOf, refusedAs, answerOf, filled, headsLeft, triplesLeft, Reads}
+use Rattle.product.specs.Table.{absent}
+use Rattle.rows.specs.State.{Ended, before}
+use Rattle.rows.specs.Lines.{startState, readText}
+use Rattle.listing.specs.Reading.{sizeOf, linesOf, refusedAs, answerOf, filled, headsLeft, triplesLeft, Reads}
 use Rattle.listing.specs.declared.ListingRead.{ListingRead}
 use Rattle.listing.specs.declared.ListingRead.the-variants.{Accepted, Invalid, Short}
 
@@ -29,6 +32,11 @@ module _ (m : Model) (text hs ts : List ℕ) {f : Fit} (e : f ≡ fitOf m (lengt
     heads-left = sym (is-short m (length hs) (length ts) e n _ _ _);
     triples-left = sym (is-short m (length hs) (length ts) e n _ _ _);
   }
+
+-- where no fact has a rank, the lines of a text are those of a listing
+pub lines-read : (m : Model) (text : List ℕ) {e : Ended} → e ≡ readText (sizeOf m) (before (replicate 256 absent) (replicate 2048 absent)) text → e ≡ linesOf m text
+unfolding startState
+lines-read m text p = p
 
 -- else the text is read
 module _ (m : Model) (text hs ts : List ℕ) (f : Fits m (length hs) (length ts)) {e : Ended} (is : e ≡ linesOf m text) where
@@ -58,6 +66,13 @@ module _ (m : Model) (text hs ts : List ℕ) {f : Fit} (k : f ≡ fitOf m (lengt
 
   pub triples-within : f .triples ≤ length ts
   triples-within = let w = fits in omega (arith, triples-are m (length hs) (length ts) k p q, w .triples-there)
+
+  -- so many cells were collected
+  pub heads-few : f .heads ≤ 256
+  heads-few = omega (arith, heads-are m (length hs) (length ts) k p q, few-heads m (fits .valid-model))
+
+  pub triples-few : f .triples ≤ 2048
+  triples-few = omega (arith, triples-are m (length hs) (length ts) k p q, few-triples m (fits .valid-model))
 
   module _ {e : Ended} (is : e ≡ linesOf m text) where
     pub refused-after : (e .refusal ≡ 0 → ⊥) → {r : ListingRead} → r ≡ refusedAs (e .refusal) (e .line) → Reads m text hs ts hs ts r

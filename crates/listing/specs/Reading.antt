@@ -8,8 +8,8 @@ use Rattle.text.specs.Split.{pick}
 use Rattle.table.specs.declared.Size.{Size}
 use Rattle.model.specs.declared.Model.{Model}
 use Rattle.fitting.specs.Fits.{headsOf, triplesOf, tested}
-use Rattle.rows.specs.Lines.{readText}
-use Rattle.rows.specs.declared.Ended.{Ended}
+use Rattle.rows.specs.State.{Ended}
+use Rattle.rows.specs.Lines.{startState, readText}
 use Rattle.listing.specs.declared.ListingRead.{ListingRead}
 use Rattle.listing.specs.declared.ListingRead.the-variants.{Accepted, Invalid, Short, TooLong, Malformed, Misplaced, OutOfRange}
 
@@ -37,7 +37,7 @@ sizeOf m = record { symbols = m .symbols; states = m .states }
 
 -- the lines of a listing
 abbrev pub linesOf : Model → List ℕ → Ended
-linesOf m text = readText (sizeOf m) text
+linesOf m text = readText (sizeOf m) startState text
 
 -- by the number of the refusal
 unfoldable pub refusedAs : ℕ → ℕ → ListingRead

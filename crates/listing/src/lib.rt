@@ -1,10 +1,10 @@
 // Reads a listing into the two lent arrays of a table.
 ghost use mathlib.Core.Path.{_≡_};
 ghost use Prim.Native.Nat.{ℕ, _≤_};
-ghost use lib.ListN.{length, getD};
+ghost use lib.ListN.{length};
 ghost use Rattle.listing.specs.Reading.{refusedAs, filled, Reads};
 use model::Model;
-use rows::State;
+use table::ABSENT;
 use table::Size;
 
 // The rounds of an accepted listing, or why it is refused and the line.
@@ -34,42 +34,17 @@ fn refused_as(n: u8, line: usize) -> ListingRead
     ListingRead::OutOfRange(line)
 }
 
-// A cell, 0 past the end.
-fn cell(cells: &[u16], i: usize) -> u16
-    ensures { λ r. ⌜ r ≡ getD (now (cells .entry)) i 0 ⌝ }
-{
-    if cells.len() <= i {
-        return 0;
-    }
-    cells[i]
-}
-
 // Copies the first n cells.
 fn copy(from: &[u16], to: &mut [u16], n: usize)
+    requires { ⌜ n ≤ length (now from) ⌝ }
     requires { ⌜ n ≤ length (now to) ⌝ }
     ensures { λ _. ⌜ now (to .exit) ≡ filled n (now (from .entry)) (now (to .entry)) ⌝ }
 {
     let mut i: usize = 0;
     while i < n {
-        to[i] = cell(from, i);
+        to[i] = from[i];
         i += 1;
     }
-}
-
-fn fill_heads(s: State, heads: &mut [u16], n: usize)
-    requires { ⌜ n ≤ length (now heads) ⌝ }
-    ensures { λ _. ⌜ now (heads .exit) ≡ filled n (s .headcells) (now (heads .entry)) ⌝ }
-{
-    let cells = s.headcells;
-    copy(&cells, heads, n);
-}
-
-fn fill_triples(s: State, triples: &mut [u16], n: usize)
-    requires { ⌜ n ≤ length (now triples) ⌝ }
-    ensures { λ _. ⌜ now (triples .exit) ≡ filled n (s .triplecells) (now (triples .entry)) ⌝ }
-{
-    let cells = s.triplecells;
-    copy(&cells, triples, n);
 }
 
 // The table of a listing, for a model: collected first, and copied into the two arrays where the whole is accepted.
@@ -87,13 +62,15 @@ pub fn read_listing(m: Model, text: &[u8], heads: &mut [u16], triples: &mut [u16
         symbols: m.symbols,
         states: m.states,
     };
-    let r = rows::read_text(size, text);
+    let mut headcells = [ABSENT; 256];
+    let mut triplecells = [ABSENT; 2048];
+    let r = rows::read_text(&mut headcells, &mut triplecells, size, text);
     let number = r.refusal;
     if number != 0 {
         return refused_as(number, r.line);
     }
-    let s = r.state;
-    fill_heads(s, heads, fit.heads);
-    fill_triples(s, triples, fit.triples);
-    ListingRead::Accepted(s.rounds)
+    copy(&headcells, heads, fit.heads);
+    copy(&triplecells, triples, fit.triples);
+    let tally = r.tally;
+    ListingRead::Accepted(tally.rounds)
 }

@@ -1,27 +1,23 @@
 -- What was read of a row, tested, is the test of the row. Assumes nothing.
-use mathlib.Core.Bool.{Bool, _&&_}
+use mathlib.Core.Bool.{Bool, _&&_, _||_, and-true}
 use mathlib.Core.List.{List}
-use mathlib.Core.Path.{_≡_, ap, _∙_, subst}
-use Prim.Native.Nat.{ℕ, _<_, _≤_}
+use mathlib.Core.Path.{_≡_, refl, sym, ap, _∙_}
+use Prim.Native.Nat.{ℕ, zero, suc}
+use native.Mathlib.Omega.{arith}
 use lib.Dec.{leb, ltb}
-use borrow.Author.Tests.{le-leb, lt-leb}
-use Rattle.model.specs.declared.Rule.{Rule}
-use Rattle.model.specs.declared.Move.{Move}
-use Rattle.model.specs.Model.{inRow, ruleAt, moveAt}
-use Rattle.model.specs.Answers.{ruleAs, meant}
-use Rattle.model.specs.Valid.{symbolsIn, ruleRowIn, moveRowIn}
-use Rattle.model.proofs.Answers.{meant-as}
+use borrow.Author.Tests.{lt-leb}
+use Rattle.model.specs.Model.{inRow, ruleBy}
+use Rattle.model.specs.Valid.{symbolsIn, ruleRowIn}
 
-module _ (symbols : ℕ) (rows : List ℕ) (r : ℕ) {kind : ℕ} (read : kind ≡ inRow 4 rows r 0) where
-  pub rule-tested : {ρ : Rule} {b : Bool} → kind ≤ 2 → ρ ≡ ruleAs (ruleAt rows r) → b ≡ symbolsIn symbols (meant ρ) → b ≡ ruleRowIn symbols rows r
-  rule-tested k ρ b =
-      rw (le-leb (inRow 4 rows r 0) 2 (rw read at k))
-      (b ∙ ap (λ (ρ : Rule). symbolsIn symbols (meant ρ)) ρ ∙ ap (symbolsIn symbols) (meant-as (ruleAt rows r)))
+-- in the order of the code: the kind, the symbol, and of what is pushed the first and the second
+abbrev tests : (n kind g g1 g2 : ℕ) → Bool
+tests n kind g g1 g2 = leb kind 2 && (ltb g n && (ltb kind 1 || (ltb g1 n && (ltb kind 2 || ltb g2 n))))
 
-  pub no-rule : 2 < kind → leb kind 2 ≡ ruleRowIn symbols rows r
-  no-rule k = rw (read, lt-leb (inRow 4 rows r 0) 2 (rw read at k))
+by-kind : (n kind g g1 g2 : ℕ) → tests n kind g g1 g2 ≡ leb kind 2 && symbolsIn n (ruleBy kind g g1 g2)
+by-kind n zero g g1 g2 = refl
+by-kind n (suc zero) g g1 g2 = refl
+by-kind n (suc (suc zero)) g g1 g2 = ap (λ b. ltb g n && (ltb g1 n && b)) (sym (and-true (ltb g2 n)))
+by-kind n (suc (suc (suc k))) g g1 g2 = rw (lt-leb (suc (suc (suc k))) 2 (omega arith))
 
-pub move-tested : (states events : ℕ) (rows : List ℕ) (v : ℕ) {μ : Move} {b : Bool} → μ ≡ moveAt rows v
-    → b ≡ (ltb (μ .source) states && ltb (μ .event) events && ltb (μ .target) states) → b ≡ moveRowIn states events rows v
-move-tested states events rows v {b = b} read e =
-    subst (λ (μ : Move). b ≡ (ltb (μ .source) states && ltb (μ .event) events && ltb (μ .target) states)) read e
+pub rule-tested : (n : ℕ) (rows : List ℕ) (r : ℕ) {b : Bool} → b ≡ tests n (inRow 4 rows r 0) (inRow 4 rows r 1) (inRow 4 rows r 2) (inRow 4 rows r 3) → b ≡ ruleRowIn n rows r
+rule-tested n rows r e = e ∙ by-kind n (inRow 4 rows r 0) (inRow 4 rows r 1) (inRow 4 rows r 2) (inRow 4 rows r 3)

@@ -1,12 +1,12 @@
 -- What a valid model record has: its counts within their sizes, and a product in range. Assumes nothing.
-use mathlib.Core.Bool.{Bool, _&&_}
+use mathlib.Core.Bool.{Bool, true, _&&_}
 use mathlib.Core.List.{List, _∷_}
-use mathlib.Core.Path.{subst}
+use mathlib.Core.Path.{_≡_, subst}
 use Prim.Native.Nat.{ℕ, _<_, _≤_}
 use lib.Dec.{T, leb, ltb, leb→le, ltb→lt}
 use Rattle.product.specs.Lists.{upTo, all, _∈_}
 use Rattle.product.specs.Product.{symbol, pushed, InRange}
-use Rattle.product.proofs.Lists.{and-left, and-right, in-upTo, All-of, All-at}
+use Rattle.product.proofs.Lists.{and-left, and-right, T-true, in-upTo, All-of, All-at}
 use Rattle.model.specs.declared.Model.{Model}
 use Rattle.model.specs.Model.{inRow, rule, move, productOf}
 use Rattle.model.specs.Valid.{within, sizesIn, startIn, symbolsIn, ruleIn, moveIn, valid}
@@ -18,6 +18,15 @@ all-below p n t i l = All-at (λ i. T (p i)) (upTo n) (All-of (λ i. T (p i)) p 
 
 is-within : (low high n : ℕ) → T (within low high n) → (low ≤ n) × (n ≤ high)
 is-within low high n t = (leb→le low n (and-left (leb low n) (leb n high) t), leb→le n high (and-right (leb low n) (leb n high) t))
+
+-- the rows of rules and moves in use are there
+pub few-rows : (g q e r v : ℕ) → sizesIn g q e r v ≡ true → (r ≤ 256) × (v ≤ 128)
+few-rows g q e r v h =
+    let t : T (sizesIn g q e r v) = rw h tt in
+    let A : Bool = within 1 32 g && within 1 8 q && within 1 16 e in (
+      leb→le r 256 (and-right A (leb r 256) (and-left (A && leb r 256) (leb v 128) t)),
+      leb→le v 128 (and-right (A && leb r 256) (leb v 128) t),
+    )
 
 pub record Sizes (m : Model) : Type 0 where
   pub some-symbol : 1 ≤ m .symbols
@@ -59,14 +68,13 @@ module _ (m : Model) (t : T (valid m)) where
       let Q : Bool = within 1 8 (m .states) in
       let E : Bool = within 1 16 (m .events) in
       let R : Bool = leb (m .rules) 256 in
-      let M : Bool = leb (m .moves) 128 in
       let s : T sized = and-left sized (startIn m) (and-left (sized && startIn m) rulesIn sized-started) in
-      let r : T (G && Q && E && R) = and-left (G && Q && E && R) M s in
-      let e : T (G && Q && E) = and-left (G && Q && E) R r in
+      let e : T (G && Q && E) = and-left (G && Q && E) R (and-left (G && Q && E && R) (leb (m .moves) 128) s) in
       let q : T (G && Q) = and-left (G && Q) E e in
       let (g1, g2) = is-within 1 32 (m .symbols) (and-left G Q q) in
       let (q1, q2) = is-within 1 8 (m .states) (and-right G Q q) in
       let (e1, e2) = is-within 1 16 (m .events) (and-right (G && Q) E e) in
+      let (r, v) = few-rows (m .symbols) (m .states) (m .events) (m .rules) (m .moves) (T-true sized s) in
       record {
         some-symbol = g1;
         symbols = g2;
@@ -74,8 +82,8 @@ module _ (m : Model) (t : T (valid m)) where
         states = q2;
         some-event = e1;
         events = e2;
-        rules = leb→le (m .rules) 256 (and-right (G && Q && E) R r);
-        moves = leb→le (m .moves) 128 (and-right (G && Q && E && R) M s);
+        rules = r;
+        moves = v;
       }
 
   pub product-in : InRange (productOf m)

@@ -1,5 +1,6 @@
 // Which model records are valid: every count within its size, and every number in use within its range.
 ghost use mathlib.Core.Path.{_≡_};
+ghost use Prim.Native.Nat.{_≤_};
 ghost use Rattle.product.specs.Lists.{all, upTo};
 ghost use Rattle.model.specs.Valid.{within, sizesIn, ruleRowIn, moveRowIn, valid};
 use crate::Model;
@@ -28,7 +29,8 @@ fn sizes_in(symbols: usize, states: usize, events: usize, rules: usize, moves: u
     rules <= 256 && moves <= 128
 }
 
-fn rules_in(rulerows: &[u8; 1024], symbols: usize, count: usize) -> bool
+fn rules_in(rulerows: &[u8; 1024], symbols: u8, count: usize) -> bool
+    requires { ⌜ count ≤ 256 ⌝ }
     ensures { λ b. ⌜ b ≡ all (ruleRowIn symbols (now (rulerows .entry))) (upTo count) ⌝ }
 {
     let mut r: usize = 0;
@@ -41,7 +43,8 @@ fn rules_in(rulerows: &[u8; 1024], symbols: usize, count: usize) -> bool
     true
 }
 
-fn moves_in(moverows: &[u8; 384], states: usize, events: usize, count: usize) -> bool
+fn moves_in(moverows: &[u8; 384], states: u8, events: u8, count: usize) -> bool
+    requires { ⌜ count ≤ 128 ⌝ }
     ensures { λ b. ⌜ b ≡ all (moveRowIn states events (now (moverows .entry))) (upTo count) ⌝ }
 {
     let mut v: usize = 0;
@@ -54,7 +57,7 @@ fn moves_in(moverows: &[u8; 384], states: usize, events: usize, count: usize) ->
     true
 }
 
-// The record is valid; if not, it is refusal 6. The counts come first, so that the loops over rules and moves are short.
+// The record is valid; if not, it is refusal 6. The counts come first, so that the rows of rules and moves are there.
 pub fn is_valid(m: Model) -> bool
     ensures { λ b. ⌜ b ≡ valid m ⌝ }
 {
@@ -70,5 +73,5 @@ pub fn is_valid(m: Model) -> bool
     if m.symbols <= m.startsymbol {
         return false;
     }
-    rules_in(&m.rulerows, symbols, m.rules) && moves_in(&m.moverows, states, events, m.moves)
+    rules_in(&m.rulerows, m.symbols, m.rules) && moves_in(&m.moverows, m.states, m.events, m.moves)
 }

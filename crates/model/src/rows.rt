@@ -1,8 +1,9 @@
 // The rule and the move of a row, and whether their numbers are in range.
 ghost use mathlib.Core.Path.{_≡_};
+ghost use Prim.Native.Nat.{_<_};
 ghost use Rattle.model.specs.Model.{inRow, ruleAt, moveAt};
-ghost use Rattle.model.specs.Answers.{Rows, ruleAs, meant};
-ghost use Rattle.model.specs.Valid.{symbolsIn, ruleRowIn, moveRowIn};
+ghost use Rattle.model.specs.Answers.{Rows, ruleAs};
+ghost use Rattle.model.specs.Valid.{ruleRowIn, moveRowIn};
 use crate::Move;
 use crate::Rule;
 
@@ -48,36 +49,40 @@ pub fn move_at(moverows: &[u8; 384], v: usize) -> Move
     }
 }
 
-// The symbols of a rule are below their number.
-fn symbols_in(rule: Rule, symbols: usize) -> bool
-    ensures { λ b. ⌜ b ≡ symbolsIn symbols (meant rule) ⌝ }
-{
-    match rule {
-        Rule::Exit(g) => g < symbols,
-        Rule::Direct(g, g1) => g < symbols && g1 < symbols,
-        Rule::Call(g, g1, g2) => {
-            if symbols <= g {
-                return false;
-            }
-            g1 < symbols && g2 < symbols
-        }
-    }
-}
-
 // Row r is a rule, with its symbols in range.
-pub fn rule_in(rulerows: &[u8; 1024], symbols: usize, r: usize) -> bool
+pub fn rule_in(rulerows: &[u8; 1024], symbols: u8, r: usize) -> bool
+    requires { ⌜ r < 256 ⌝ }
     ensures { λ b. ⌜ b ≡ ruleRowIn symbols (now (rulerows .entry)) r ⌝ }
 {
-    in_row(rulerows, 4, r, 0) <= 2 && symbols_in(rule_at(rulerows, r), symbols)
+    let kind = rulerows[r * 4 + 0];
+    if 2 < kind {
+        return false;
+    }
+    if symbols <= rulerows[r * 4 + 1] {
+        return false;
+    }
+    if kind < 1 {
+        return true; // it pushes none
+    }
+    if symbols <= rulerows[r * 4 + 2] {
+        return false;
+    }
+    if kind < 2 {
+        return true; // it pushes one
+    }
+    rulerows[r * 4 + 3] < symbols
 }
 
 // Row v is a move, with its states and its event in range.
-pub fn move_in(moverows: &[u8; 384], states: usize, events: usize, v: usize) -> bool
+pub fn move_in(moverows: &[u8; 384], states: u8, events: u8, v: usize) -> bool
+    requires { ⌜ v < 128 ⌝ }
     ensures { λ b. ⌜ b ≡ moveRowIn states events (now (moverows .entry)) v ⌝ }
 {
-    let by = move_at(moverows, v);
-    if states <= by.source {
+    if states <= moverows[v * 3 + 0] {
         return false;
     }
-    by.event < events && by.target < states
+    if events <= moverows[v * 3 + 1] {
+        return false;
+    }
+    moverows[v * 3 + 2] < states
 }

@@ -1,4 +1,5 @@
 -- The number that a field is, and the numbers of a run of fields. Assumes nothing.
+use mathlib.Core.Bool.{Bool, true, false}
 use mathlib.Core.List.{List, [], _∷_}
 use Prim.Native.Nat.{ℕ, _+_, _-_, _*_}
 use lib.Dec.{eqb, ltb}
@@ -20,6 +21,10 @@ numberOf s =
     (pick (ltb 5 (length s)) Bad
     (pick (eqb (length s) 1) (spelled 0 s)
     (pick (eqb (getD s 0 0) 48) Bad (spelled 0 s))))
+
+-- whether so many digits write a number, by the first of them
+abbrev pub written : (count first : ℕ) → Bool
+written n b = pick (eqb n 1) true (pick (eqb n 0) false (pick (ltb 5 n) false (pick (eqb b 48) false true)))
 
 -- the most numbers that a run of fields may have
 abbrev pub most : ℕ

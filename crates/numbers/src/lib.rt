@@ -2,9 +2,11 @@
 // digits and no leading zero. Nothing here knows what the numbers mean.
 ghost use mathlib.Core.Path.{_≡_};
 ghost use Prim.Native.Nat.{ℕ, _+_, _<_, _≤_};
-ghost use lib.ListN.{length};
-ghost use Rattle.text.specs.Split.{split};
-ghost use Rattle.numbers.specs.Number.{spelled, numberOf, wrong, push, numbersOf};
+ghost use lib.ListN.{length, getD};
+ghost use Rattle.text.specs.Split.{first};
+ghost use Rattle.numbers.specs.Number.{written, wrong};
+ghost use Rattle.numbers.specs.Field.{field, Begins, fieldBy, fieldOf, fieldsBy, fieldsOf};
+ghost use Rattle.numbers.specs.declared.Number.the-variants.{Bad};
 ghost use Rattle.numbers.specs.Digits.{front, digitsOf};
 
 // The most numbers that a run of fields may have.
@@ -16,10 +18,30 @@ pub enum Number {
     Bad,
 }
 
+// The number of the field that a text begins with, where the field ends, and the byte there: zeros where it is no number.
+struct FieldRead {
+    number: Number,
+    end: usize,
+    stop: u8,
+}
+
+// The digits that a text begins with: how many, six at the most, the number that they write, and the byte behind them.
+struct Run {
+    count: usize,
+    value: u32,
+    stop: u8,
+}
+
 // The numbers of a run of fields, zeros after them; a count of 0 where the fields are wrong.
 pub struct Numbers {
     pub count: usize,
     pub at: [u32; MOST],
+}
+
+// The numbers of the fields of a line, and where the line ends.
+pub struct FieldsRead {
+    pub numbers: Numbers,
+    pub end: usize,
 }
 
 // The decimal digits of a number, most significant first, zeros after them.
@@ -28,92 +50,134 @@ pub struct Digits {
     pub at: [u8; 5],
 }
 
-// The number that at most five digits write.
-fn read_digits(s: &[u8]) -> Number
-    requires { ⌜ length (now s) ≤ 5 ⌝ }
-    ensures { λ r. ⌜ r ≡ spelled 0 (now (s .entry)) ⌝ }
+// The digits that s begins with: a sixth is one too many, and none is looked for after it.
+fn read_digits(s: &[u8]) -> Run
+    ensures { λ r. ⌜ Begins (now (s .entry)) (r .value) (r .count) (r .stop) ⌝ }
 {
-    let mut v: u32 = 0;
-    let mut i = 0;
-    while i < s.len() {
-        let b = s[i];
-        if b < b'0' {
-            return Number::Bad;
+    let mut value: u32 = 0;
+    let mut count: usize = 0;
+    while count < s.len() {
+        let stop = s[count];
+        if 5 < count {
+            return Run { count, value, stop };
         }
-        if b'9' < b {
-            return Number::Bad;
+        if stop < b'0' {
+            return Run { count, value, stop };
         }
-        v = v * 10 + (b - b'0') as u32;
-        i += 1;
+        if b'9' < stop {
+            return Run { count, value, stop };
+        }
+        value = value * 10 + (stop as u32 - b'0' as u32);
+        count += 1;
     }
-    Number::Is(v)
+    Run {
+        count,
+        value,
+        stop: b'\n',
+    }
 }
 
-// The number that a whole field is.
-pub fn read_number(s: &[u8]) -> Number
-    ensures { λ r. ⌜ r ≡ numberOf (now (s .entry)) ⌝ }
+fn no_field() -> FieldRead
+    ensures { λ r. ⌜ r ≡ fieldBy Bad 0 0 ⌝ }
 {
-    let n = s.len();
-    if n == 0 {
-        return Number::Bad;
+    FieldRead {
+        number: Number::Bad,
+        end: 0,
+        stop: 0,
     }
-    if 5 < n {
-        return Number::Bad;
+}
+
+// Whether so many digits, the first those of s, write a number: one to five, and no leading zero.
+fn well_written(s: &[u8], digits: usize) -> bool
+    requires { ⌜ digits ≤ length (now s) ⌝ }
+    ensures { λ r. ⌜ r ≡ written digits (getD (now (s .entry)) 0 0) ⌝ }
+{
+    if digits == 1 {
+        return true;
     }
-    if n == 1 {
-        return read_digits(s);
+    if digits == 0 {
+        return false;
+    }
+    if 5 < digits {
+        return false;
     }
     if s[0] == b'0' {
-        return Number::Bad;
+        return false;
     }
-    read_digits(s)
+    true
 }
 
-// No numbers yet, or none that are right.
-fn no_numbers() -> Numbers
-    ensures { λ r. ⌜ r ≡ wrong ⌝ }
+// The number of the field that s begins with.
+fn read_field(s: &[u8]) -> FieldRead
+    ensures { λ r. ⌜ r ≡ fieldOf (now (s .entry)) ⌝ }
 {
-    Numbers {
+    let run = read_digits(s);
+    let end = run.count;
+    if !well_written(s, end) {
+        return no_field();
+    }
+    let number = Number::Is(run.value);
+    let stop = run.stop;
+    if stop == b'\n' {
+        return FieldRead {
+            number,
+            end,
+            stop: b'\n',
+        };
+    }
+    if stop != b'\t' {
+        return no_field();
+    }
+    FieldRead {
+        number,
+        end,
+        stop: b'\t',
+    }
+}
+
+// A line whose fields are wrong.
+fn wrong_fields(s: &[u8]) -> FieldsRead
+    ensures { λ r. ⌜ r ≡ fieldsBy wrong (length (first 10 (now (s .entry)))) ⌝ }
+{
+    let numbers = Numbers {
         count: 0,
         at: [0; MOST],
-    }
-}
-
-// The numbers with that of one more field; none where it is no number or there is no room.
-fn push_field(n: Numbers, field: &[u8]) -> Numbers
-    ensures { λ r. ⌜ r ≡ push n (numberOf (now (field .entry))) ⌝ }
-{
-    let read = read_number(field);
-    let Number::Is(v) = read else {
-        return no_numbers();
     };
-    let k = n.count;
-    if MOST <= k {
-        return no_numbers();
+    FieldsRead {
+        numbers,
+        end: text::find(s, b'\n'),
     }
-    let mut m = n;
-    m.at[k] = v;
-    m.count = k + 1;
-    m
 }
 
-// The numbers of the fields of s.
-pub fn read_numbers(s: &[u8]) -> Numbers
-    ensures { λ r. ⌜ r ≡ numbersOf (split 9 (now (s .entry))) ⌝ }
+// The numbers of the fields of the line that s begins with.
+pub fn read_fields(s: &[u8]) -> FieldsRead
+    ensures { λ r. ⌜ r ≡ fieldsOf (now (s .entry)) ⌝ }
 {
-    let mut n = no_numbers();
-    let mut fields = s;
-    let mut e = text::find(fields, b'\t');
-    while e < fields.len() {
-        n = push_field(n, &fields[..e]);
-        if n.count == 0 {
-            return n;
+    let mut count: usize = 0;
+    let mut at = [0u32; MOST];
+    let mut rest = s;
+    loop {
+        let f = read_field(rest);
+        let number = f.number;
+        let Number::Is(v) = number else {
+            return wrong_fields(s);
+        };
+        if MOST <= count {
+            return wrong_fields(s);
+        }
+        at[count] = v;
+        count += 1;
+        let e = f.end;
+        if f.stop == b'\n' {
+            let numbers = Numbers { count, at };
+            return FieldsRead {
+                numbers,
+                end: s.len() - rest.len() + e,
+            };
         }
         let b = e + 1;
-        fields = &fields[b..];
-        e = text::find(fields, b'\t');
+        rest = &rest[b..];
     }
-    push_field(n, fields)
 }
 
 // The digits with one more in front of them.

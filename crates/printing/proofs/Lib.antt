@@ -2,3 +2,4 @@
 pub mod Bytes
 pub mod Whole
 pub mod Front
+pub mod Digits

@@ -1,6 +1,6 @@
 // Writes the listing of a table: `safe` with rounds and counts, then each head and each triple that is present, with its rank.
 ghost use mathlib.Core.Path.{_≡_};
-ghost use Prim.Native.Nat.{ℕ, _≤_};
+ghost use Prim.Native.Nat.{ℕ, _+_, _-_, _≤_};
 ghost use lib.ListN.{length};
 ghost use Rattle.text.specs.Put.{Put};
 ghost use Rattle.printing.specs.Listing.{cellBytes, ifPresent, presentIn, cellsBytes, headerBytes, listingBytes};
@@ -9,6 +9,8 @@ ghost use Rattle.printing.specs.Writing.{Writes, Cell, Rows, Counts, Who
 use model::Model;
 use table::ABSENT;
 use table::Size;
+
+mod lay; // a line where it has room
 
 // What the cells of an array are of.
 pub enum Kind {
@@ -40,14 +42,31 @@ fn count(cells: &[u16], n: usize) -> u16
     present
 }
 
+// The most bytes of the line of a fact: `erase`, four numbers behind tabs, and a line feed.
+const LONGEST: usize = 30;
+
+// How many bytes have room in n from a place on.
+fn room(n: usize, at: usize) -> usize
+    ensures { λ r. ⌜ r ≡ n - at ⌝ }
+{
+    if n < at {
+        return 0;
+    }
+    n - at
+}
+
 // Puts the line of the head whose cell is i.
 fn put_head(out: &mut [u8], at: usize, size: Size, i: usize, rank: u16) -> usize
     requires { ⌜ Cell size i ⌝ }
     ensures { λ r. ⌜ Put (now (out .entry)) (now (out .exit)) at r (cellBytes Head (size .symbols) (size .states) i rank) ⌝ }
 {
-    let g = size.symbols as usize;
-    let row = [(i / g) as u16, (i % g) as u16, rank];
-    print::put_line(out, at, b"head", &row)
+    let cell = i as u16;
+    let g = size.symbols as u16;
+    let row = [cell / g, cell % g, rank];
+    if room(out.len(), at) < LONGEST {
+        return print::put_line(out, at, b"head", &row);
+    }
+    lay::line(out, at, b"head", &row)
 }
 
 // Puts the line of the triple whose cell is i.
@@ -55,20 +74,24 @@ fn put_triple(out: &mut [u8], at: usize, size: Size, i: usize, rank: u16) -> usi
     requires { ⌜ Cell size i ⌝ }
     ensures { λ r. ⌜ Put (now (out .entry)) (now (out .exit)) at r (cellBytes Triple (size .symbols) (size .states) i rank) ⌝ }
 {
-    let g = size.symbols as usize;
-    let q = size.states as usize;
-    let h = i / q;
-    let row = [(h / g) as u16, (h % g) as u16, (i % q) as u16, rank];
-    print::put_line(out, at, b"erase", &row)
+    let cell = i as u16;
+    let g = size.symbols as u16;
+    let q = size.states as u16;
+    let h = cell / q;
+    let row = [h / g, h % g, cell % q, rank];
+    if room(out.len(), at) < LONGEST {
+        return print::put_line(out, at, b"erase", &row);
+    }
+    lay::line(out, at, b"erase", &row)
 }
 
 // Puts the line of cell i, if it is present.
 fn put_fact(out: &mut [u8], at: usize, kind: Kind, size: Size, i: usize, rank: u16) -> usize
-    requires { ⌜ Cell size i ⌝ }
+    requires { ⌜ Cell size i × (at ≤ length (now out) + 1) ⌝ }
     ensures { λ r. ⌜ Put (now (out .entry)) (now (out .exit)) at r (ifPresent kind (size .symbols) (size .states) i rank) ⌝ }
 {
     if rank == ABSENT {
-        return print::place(out.len(), at);
+        return at;
     }
     match kind {
         Kind::Head => put_head(out, at, size, i, rank),

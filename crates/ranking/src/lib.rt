@@ -1,31 +1,12 @@
 // The rank that a line of a listing gives to a fact: put into the fact's cell, or refused.
 ghost use mathlib.Core.Path.{_≡_};
 ghost use Rattle.table.specs.Cells.{putHead, putTriple};
-ghost use Rattle.ranking.specs.Rank.{faultOf, headInside, tripleInside, headFault, tripleFault, Ranked};
+ghost use Rattle.ranking.specs.Rank.{headInside, tripleInside, headFault, tripleFault, Ranked};
 use table::ABSENT;
 use table::Size;
 
 // The largest rank, and the most rounds.
 pub const LARGEST: u32 = 65534;
-
-// Why a line with a fact is refused: out of place or twice before out of range.
-fn fault(begun: u8, held: u16, inside: bool, rank: u32) -> u8
-    ensures { λ r. ⌜ r ≡ faultOf begun held inside rank ⌝ }
-{
-    if begun == 0 {
-        return 3;
-    }
-    if held != ABSENT {
-        return 3;
-    }
-    if !inside {
-        return 4;
-    }
-    if LARGEST < rank {
-        return 4;
-    }
-    0
-}
 
 fn head_inside(size: Size, q: u32, g: u32) -> bool
     ensures { λ r. ⌜ r ≡ headInside size q g ⌝ }
@@ -45,14 +26,22 @@ fn triple_inside(size: Size, q: u32, g: u32, e: u32) -> bool
     e < size.states as u32
 }
 
-// Gives a head its rank; the answer is the document's number of the refusal, or 0.
+// Gives a head its rank; the answer is the document's number of the refusal, or 0. A fact outside its range has no cell, and is held by none.
 pub fn rank_head(cells: &mut [u16], size: Size, begun: u8, q: u32, g: u32, rank: u32) -> u8
     ensures { λ r. ⌜ Ranked (now (cells .entry)) (now (cells .exit)) (headFault size begun (now (cells .entry)) q g rank) (putHead (size .symbols) (size .states) (now (cells .entry)) q g rank) r ⌝ }
 {
-    let held = table::head_at(cells, size, q as usize, g as usize);
-    let f = fault(begun, held, head_inside(size, q, g), rank);
-    if f != 0 {
-        return f;
+    if begun == 0 {
+        return 3;
+    }
+    if !head_inside(size, q, g) {
+        return 4;
+    }
+    let had = table::head_at(cells, size, q as usize, g as usize);
+    if had != ABSENT {
+        return 3;
+    }
+    if LARGEST < rank {
+        return 4;
     }
     table::put_head(cells, size, q as usize, g as usize, rank as u16);
     0
@@ -70,10 +59,18 @@ pub fn rank_triple(
 ) -> u8
     ensures { λ r. ⌜ Ranked (now (cells .entry)) (now (cells .exit)) (tripleFault size begun (now (cells .entry)) q g e rank) (putTriple (size .symbols) (size .states) (now (cells .entry)) q g e rank) r ⌝ }
 {
+    if begun == 0 {
+        return 3;
+    }
+    if !triple_inside(size, q, g, e) {
+        return 4;
+    }
     let held = table::triple_at(cells, size, q as usize, g as usize, e as usize);
-    let f = fault(begun, held, triple_inside(size, q, g, e), rank);
-    if f != 0 {
-        return f;
+    if held != ABSENT {
+        return 3;
+    }
+    if LARGEST < rank {
+        return 4;
     }
     table::put_triple(cells, size, q as usize, g as usize, e as usize, rank as u16);
     0

@@ -16,7 +16,7 @@ use Rattle.table.specs.declared.Size.{Size}
 use Rattle.table.specs.Cells.{headIn, tripleIn, putHead, putTriple}
 use Rattle.table.proofs.Cells.{head-inside, triple-inside}
 use Rattle.line.specs.Line.{wordOf, head, erase}
-use Rattle.rows.specs.declared.State.{State}
+use Rattle.rows.specs.State.{State}
 use Rattle.rows.specs.Lines.{goes, stepOf, headStep, tripleStep}
 use Rattle.ranking.specs.Rank.{largest, headInside, tripleInside}
 use Rattle.listing.specs.Reading.{filled}

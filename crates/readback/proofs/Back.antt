@@ -17,8 +17,7 @@ use Rattle.product.specs.Lists.{over}
 use Rattle.table.specs.declared.Size.{Size}
 use Rattle.line.specs.Line.{wordOf, wants, malformed, lineOf}
 use Rattle.line.specs.declared.Word.{Word}
-use Rattle.rows.specs.declared.State.{State}
-use Rattle.rows.specs.declared.Ended.{Ended}
+use Rattle.rows.specs.State.{State, Ended}
 use Rattle.rows.specs.Lines.{goes, ends, stepOf, readFrom, readLines}
 use Rattle.rows.proofs.Lines.{from-next}
 use Rattle.printing.specs.Listing.{lineBytes}

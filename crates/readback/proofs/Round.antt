@@ -23,7 +23,7 @@ use Rattle.line.specs.Line.{wordOf, safe, head, erase}
 use Rattle.model.specs.declared.Model.{Model}
 use Rattle.model.specs.Valid.{valid}
 use Rattle.model.proofs.Valid.{Sizes, valid-sizes}
-use Rattle.rows.specs.declared.State.{State}
+use Rattle.rows.specs.State.{State}
 use Rattle.listing.specs.declared.ListingRead.the-variants.{Accepted}
 use Rattle.fitting.specs.Fits.{headsOf, triplesOf, Fits}
 use Rattle.ranking.specs.Rank.{largest}
@@ -208,7 +208,7 @@ module _ (m : Model) (v : valid m ≡ true) (rounds : ℕ) (r : rounds ≤ large
   pub read-all : linesOf m (bytesOf m rounds hs ts) ≡ ends 0 0 whole-state
   read-all =
       let (k, e) = leads-all .leads 1 [] in
-      sym (short-text (sizeOf m) (bytesOf m rounds hs ts) fits)
+      sym (short-text (sizeOf m) startState (bytesOf m rounds hs ts) fits)
       ∙ ap (readLines (sizeOf m) 1 startState) (sym (append-nil (bytesOf m rounds hs ts)))
       ∙ e
       ∙ at-end (sizeOf m) k whole-state

@@ -13,7 +13,7 @@ use Rattle.product.specs.Lists.{upTo, all}
 use Rattle.product.proofs.Lists.{All-upTo, all-of, both}
 use Rattle.line.specs.Line.{lineOf}
 use Rattle.model.specs.Valid.{valid, ruleIn, moveIn}
-use Rattle.draft.specs.declared.Draft.{Draft}
+use Rattle.draft.specs.Draft.{Draft}
 use Rattle.reader.specs.declared.ModelRead.{ModelRead}
 use Rattle.reader.specs.declared.Reading.the-variants.{Accepted, TooLong, Malformed, Misplaced, OutOfRange, TooMany}
 use Rattle.reader.specs.Reading.{empty, numbered, refused}

@@ -16,7 +16,7 @@ use Rattle.product.proofs.Lists.{over-suc}
 use Rattle.model.specs.declared.Move.{Move}
 use Rattle.model.specs.Model.{inRow, ruleBy, ruleAt, moveAt}
 use Rattle.model.specs.Valid.{symbolsIn, ruleRowIn, moveRowIn}
-use Rattle.draft.specs.declared.Draft.{Draft}
+use Rattle.draft.specs.Draft.{Draft}
 use Rattle.draft.specs.Lines.{threeAt, fourAt}
 use Rattle.reader.specs.Says.{Said}
 use Rattle.reader.proofs.Rows.{three-below, four-below, three-0, three-1, three-2, four-old, four-3, length-three, length-four, truth-put, any-more, same-place, each-same}

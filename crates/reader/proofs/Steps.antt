@@ -12,7 +12,7 @@ use Rattle.line.specs.declared.Word.the-variants.{Size, Start, Final, Event, Ex
 use Rattle.model.specs.Model.{ruleBy}
 use Rattle.limits.specs.Limits.{RuleFits, Fits}
 use Rattle.limits.proofs.Passed.{fits}
-use Rattle.draft.specs.declared.Draft.{Draft}
+use Rattle.draft.specs.Draft.{Draft}
 use Rattle.draft.specs.Lines.{countsOf, ruleLine, after, takeLine}
 use Rattle.draft.proofs.Stores.{gone-on}
 use Rattle.reader.specs.Reading.{empty}

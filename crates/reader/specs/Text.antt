@@ -5,13 +5,21 @@ use lib.Dec.{eqb, ltb}
 use lib.ListN.{length}
 use Rattle.text.specs.Split.{pick, first, later, split}
 use Rattle.line.specs.Line.{lineOf}
-use Rattle.draft.specs.declared.Draft.{Draft}
+use Rattle.draft.specs.declared.Outline.{Outline}
+use Rattle.draft.specs.Draft.{Draft}
 use Rattle.draft.specs.Lines.{takeLine}
 use Rattle.reader.specs.declared.Reading.the-variants.{Accepted, TooLong, Malformed, Misplaced}
 use Rattle.reader.specs.declared.ModelRead.{ModelRead}
 use Rattle.reader.specs.Reading.{empty, numbered, refused}
 
 -- before the first line: not started, and no symbols, which says that there was no `size`
+abbrev pub noOutline : Outline
+noOutline = record {
+  counts = record { symbols = 0; states = 0; events = 0; started = 0; rules = 0; moves = 0 };
+  startstate = 0;
+  startsymbol = 0;
+}
+
 abbrev pub fresh : Draft
 fresh = record { started = 0; model = empty }
 

@@ -4,8 +4,10 @@ ghost use Prim.Native.Nat.{ℕ, _≤_};
 ghost use lib.ListN.{length};
 ghost use Rattle.text.specs.Split.{first, later};
 ghost use Rattle.reader.specs.Reading.{empty, numbered, refused};
-ghost use Rattle.reader.specs.Text.{fresh, readFrom, readModel};
-use draft::Draft;
+ghost use Rattle.draft.specs.Draft.{whole};
+ghost use Rattle.reader.specs.Text.{noOutline, fresh, finished, readFrom, readModel};
+use draft::Outline;
+use limits::Counts;
 use model::Model;
 
 // The longest text that is read.
@@ -72,43 +74,94 @@ fn numbered(n: u8, line: usize) -> Reading
     Reading::TooMany(line)
 }
 
+fn no_outline() -> Outline
+    ensures { λ r. ⌜ r ≡ noOutline ⌝ }
+{
+    let counts = Counts {
+        symbols: 0,
+        states: 0,
+        events: 0,
+        started: 0,
+        rules: 0,
+        moves: 0,
+    };
+    Outline {
+        counts,
+        startstate: 0,
+        startsymbol: 0,
+    }
+}
+
+// After the last line.
+fn finish(
+    o: Outline,
+    finals: [bool; 8],
+    shows: [bool; 512],
+    rulerows: [u8; 1024],
+    moverows: [u8; 384],
+) -> ModelRead
+    ensures { λ r. ⌜ r ≡ finished (whole o finals shows rulerows moverows) ⌝ }
+{
+    let counts = o.counts;
+    if counts.started == 0 {
+        return refused_with(Reading::Misplaced(0));
+    }
+    let model = Model {
+        symbols: counts.symbols,
+        states: counts.states,
+        events: counts.events,
+        startstate: o.startstate,
+        startsymbol: o.startsymbol,
+        finals,
+        shows,
+        rules: counts.rules,
+        rulerows,
+        moves: counts.moves,
+        moverows,
+    };
+    ModelRead {
+        reading: Reading::Accepted,
+        model,
+    }
+}
+
 // Line by line: what stands after the last line feed is no line, and must be empty.
 fn read_lines(text: &[u8]) -> ModelRead
     requires { ⌜ length (now text) ≤ 16384 ⌝ }
     ensures { λ r. ⌜ r ≡ readFrom 1 fresh (first 10 (now (text .entry))) (later 10 (now (text .entry))) ⌝ }
 {
-    let m = no_model();
-    let mut d = Draft {
-        started: 0,
-        model: m,
-    };
+    let mut finals = [false; 8];
+    let mut shows = [false; 512];
+    let mut rulerows = [0u8; 1024];
+    let mut moverows = [0u8; 384];
+    let mut o = no_outline();
     let mut left = text;
     let mut n: usize = 1;
-    let mut e = text::find(left, b'\n');
-    while e < left.len() {
-        let l = line::read_line(&left[..e]);
-        let t = draft::take_line(d, l);
+    while 0 < left.len() {
+        let l = line::read_line(left);
+        let e = l.end;
+        if left.len() <= e {
+            return refused_with(Reading::Malformed(n));
+        }
+        let said = l.line;
+        let t = draft::take_line(
+            &mut finals,
+            &mut shows,
+            &mut rulerows,
+            &mut moverows,
+            o,
+            said,
+        );
         let refusal = t.refusal;
         if refusal != 0 {
             return refused_with(numbered(refusal, n));
         }
-        d = t.draft;
+        o = t.outline;
         n += 1;
         let b = e + 1;
         left = &left[b..];
-        e = text::find(left, b'\n');
     }
-    if 0 < left.len() {
-        return refused_with(Reading::Malformed(n));
-    }
-    if d.started == 0 {
-        return refused_with(Reading::Misplaced(0));
-    }
-    let model = d.model;
-    ModelRead {
-        reading: Reading::Accepted,
-        model,
-    }
+    finish(o, finals, shows, rulerows, moverows)
 }
 
 // The model of a text.

@@ -1,13 +1,12 @@
 -- The check's answer, reason by reason, from what its code was answered. Assumes nothing.
 use mathlib.Core.Bool.{Bool, true, false, not}
 use mathlib.Core.List.{List}
-use mathlib.Core.Option.{Option}
 use mathlib.Core.Path.{_≡_, refl, sym, ap, _∙_}
 use Prim.Native.Nat.{ℕ}
 use lib.Dec.{T}
 use borrow.Author.Tests.{not-true, not-false}
-use Rattle.product.specs.Lists.{upTo, over, each, find}
-use Rattle.product.specs.Product.{Product, Step}
+use Rattle.product.specs.Lists.{find}
+use Rattle.product.specs.Product.{Product}
 use Rattle.product.specs.Facts.{Fact, first, pairs}
 use Rattle.product.specs.Check.{closedAt, clean, fails, openAt, checked}
 use Rattle.culprit.specs.Culprit.{cleanIn}
@@ -21,8 +20,8 @@ use Rattle.recheck.specs.declared.Recheck.the-variants.{Accepted, Invali
 use Rattle.recheck.specs.declared.Found.{Found}
 use Rattle.recheck.specs.declared.Found.the-variants.{At, Nowhere}
 use Rattle.recheck.specs.Recheck.{sizeOf, longEnough, inTable, answer, recheck}
-use Rattle.recheck.specs.Tests.{step, isOpen, foundAs}
-use Rattle.recheck.proofs.Search.{found-some, found-none}
+use Rattle.recheck.specs.Tests.{openingOf, foundAs}
+use Rattle.recheck.proofs.Finding.{found-some, found-none}
 use Rattle.recheck.proofs.Steps.{open-is}
 
 module _ (p : Product) (t : Fact → Bool) where
@@ -41,9 +40,6 @@ module _ (p : Product) (t : Fact → Bool) where
 
 abbrev facts : Model → (heads triples : List ℕ) → Fact → Bool
 facts m hs ts = inTable (sizeOf m) hs ts
-
-abbrev openingOf : Model → (Fact → Bool) → Option Step
-openingOf m t = find (isOpen (m .rulerows) (m .moverows) (m .shows) (m .states) t) (over (upTo (m .rules)) (λ r. each (upTo (m .moves)) (step r)))
 
 -- is the record valid, are the arrays long enough, is the start head there, and no violating fact
 module _ (m : Model) (hs ts : List ℕ) {a : Bool} (sound : a ≡ valid m) where

@@ -14,7 +14,7 @@ use Rattle.model.proofs.Steps.{next-rows}
 use Rattle.kept.specs.Kept.{nextKept}
 use Rattle.kept.proofs.Ways.{all-over, all-same, kept-is}
 use Rattle.recheck.specs.Tests.{stepKept, step, isClosed, isOpen}
-use Rattle.recheck.proofs.Search.{find-same}
+use Rattle.recheck.proofs.Finding.{find-same}
 
 module _ (m : Model) (t : Fact → Bool) where
   ways-kept : (s : Step) (q : ℕ) (o : Option ℕ) → all (keeps t) (waysTo (productOf m) s q o) ≡ nextKept (m .states) t q (ruleOf (productOf m) s) o

@@ -1,2 +1,3 @@
 pub mod Recheck
 pub mod Tests
+pub mod Rows

@@ -1,13 +1,19 @@
 -- Which steps are closed, by the rows of a model, of the facts t of a table; and the first that is not. Assumes nothing.
-use mathlib.Core.Bool.{Bool, not}
+use mathlib.Core.Bool.{Bool, false, not}
 use mathlib.Core.List.{List}
 use mathlib.Core.Option.{Option, none, some}
-use Prim.Native.Nat.{ℕ}
-use Rattle.product.specs.Lists.{upTo, all}
+use mathlib.Core.Path.{_≡_}
+use Prim.Native.Nat.{ℕ, _<_, _≤_}
+use lib.Dec.{T}
+use lib.ListN.{getD}
+use Rattle.product.specs.Lists.{upTo, over, each, all, find}
 use Rattle.product.specs.Product.{Step}
 use Rattle.product.specs.Facts.{Fact}
+use Rattle.model.specs.declared.Model.{Model}
 use Rattle.model.specs.Model.{ruleAt, nextAt}
+use Rattle.steps.specs.Steps.{classOf}
 use Rattle.kept.specs.Kept.{nextKept}
+use Rattle.closed.specs.Closed.{ruleClosed}
 use Rattle.recheck.specs.declared.Found.{Found}
 use Rattle.recheck.specs.declared.Found.the-variants.{At, Nowhere}
 
@@ -31,3 +37,17 @@ isOpen rulerows moverows shows states t s = not (isClosed rulerows moverows show
 abbrev pub foundAs : Option Step → Found
 foundAs none = Nowhere
 foundAs (some s) = At (s .by-rule) (s .by-move)
+
+-- the first step of a model's rules and moves that is not closed, rule by rule and move by move
+abbrev pub openingOf : Model → (Fact → Bool) → Option Step
+openingOf m t = find (isOpen (m .rulerows) (m .moverows) (m .shows) (m .states) t) (over (upTo (m .rules)) (λ r. each (upTo (m .moves)) (step r)))
+
+-- rule r is closed by matrices: tg has the steps of each class, ts and hs the triples and the heads of each symbol
+unfoldable pub closedBy : (rulerows tg ts hs : List ℕ) → (r : ℕ) → Bool
+closedBy rulerows tg ts hs r = ruleClosed ts hs (getD tg (classOf rulerows r) 0) (ruleAt rulerows r)
+
+-- k is the first of n numbers that does not pass, or n where all do
+pub record FirstOpen (p : ℕ → Bool) (n k : ℕ) : Type 0 where
+  pub within : k ≤ n
+  pub before : (r : ℕ) → r < k → T (p r)
+  pub here : k < n → p k ≡ false

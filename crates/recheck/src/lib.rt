@@ -1,7 +1,7 @@
 // The table check: whether the facts in two lent arrays show that no run violates. It knows the model and the definitions, and no decision.
 ghost use mathlib.Core.Path.{_≡_};
 ghost use Rattle.recheck.specs.Recheck.{recheck};
-use crate::closed::open_step;
+use crate::search::open_step;
 use model::Model;
 use table::Size;
 
@@ -21,7 +21,8 @@ enum Found {
     Nowhere,
 }
 
-mod closed; // whether the consequences of every step are present
+mod facts; // the facts of the arrays as matrices
+mod search; // the first rule and move that are not closed
 
 // Accepts exactly if the start head is present, no violating fact is, and every consequence of every step is; else the first reason.
 pub fn check_table<'a>(m: Model, heads: &'a [u16], triples: &'a [u16]) -> Recheck
@@ -45,16 +46,7 @@ pub fn check_table<'a>(m: Model, heads: &'a [u16], triples: &'a [u16]) -> Rechec
     if !culprit::is_clean(&m.finals, heads, triples, size, q, g) {
         return Recheck::Violating;
     }
-    let found = open_step(
-        &m.rulerows,
-        &m.moverows,
-        &m.shows,
-        heads,
-        triples,
-        size,
-        m.rules,
-        m.moves,
-    );
+    let found = open_step(m, heads, triples);
     match found {
         Found::At(r, v) => Recheck::Open(r, v),
         Found::Nowhere => Recheck::Accepted,

@@ -14,7 +14,7 @@ use Rattle.model.specs.declared.Model.{Model}
 use Rattle.model.specs.Valid.{valid}
 use Rattle.text.specs.Put.{Put}
 use Rattle.text.proofs.Puts.{as-put, none-put}
-use Rattle.draft.specs.declared.Draft.{Draft}
+use Rattle.draft.specs.Draft.{Draft}
 use Rattle.reader.specs.declared.ModelRead.{ModelRead}
 use Rattle.reader.proofs.Accepted.{accepted-valid}
 use Rattle.reader.specs.declared.Reading.{Reading}

@@ -24,7 +24,7 @@ use Rattle.model.proofs.Valid.{valid-sizes}
 use Rattle.recheck.specs.declared.Recheck.{Recheck}
 use Rattle.recheck.specs.declared.Recheck.the-variants.{Accepted, Invalid, Short, NoStart, Violating, Open}
 use Rattle.recheck.specs.Recheck.{sizeOf, longEnough, inTable, answer, recheck}
-use Rattle.rows.specs.declared.State.{State}
+use Rattle.rows.specs.State.{State}
 use Rattle.listing.specs.declared.ListingRead.{ListingRead}
 use Rattle.listing.specs.declared.ListingRead.the-variants as listing
 use Rattle.rows.specs.Lines.{longest, startState, ends, stepOf, finished, readFrom, readText}
@@ -59,7 +59,7 @@ refused-line n line = go (eqb n 1) (eqb n 2) (eqb n 3)
     go false false true = omega arith
     go false false false = omega arith
 
-text-line : (z : Size) (text : List ℕ) → readText z text .line < 65536
+text-line : (z : Size) (text : List ℕ) → readText z startState text .line < 65536
 text-line z text = go (ltb longest (length text)) refl
   where
     go : (a : Bool) → ltb longest (length text) ≡ a → pick a (ends 1 0 startState) (readFrom z 1 startState (first 10 text) (later 10 text)) .line < 65536

@@ -72,12 +72,11 @@ fn put_listing(out: &mut [u8], m: Model, text: &[u8]) -> usize
 pub fn recheck_text(text: &[u8], out: &mut [u8]) -> usize
     ensures { λ r. ⌜ Put (now (out .entry)) (now (out .exit)) 0 r (recheckOutput (now (text .entry))) ⌝ }
 {
-    let part = splitter::model_part(text);
-    let seen = refusal::read_or_refuse(part, out);
+    let at = splitter::listing_at(text);
+    let seen = refusal::read_or_refuse(&text[..at], out);
     if seen.accepted {
         let m = seen.model;
-        let rest = splitter::listing_of(text);
-        return put_listing(out, m, rest);
+        return put_listing(out, m, &text[at..]);
     }
     seen.end
 }

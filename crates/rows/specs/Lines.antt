@@ -1,6 +1,6 @@
 -- What the lines of a listing do, one after another. Assumes nothing.
 use mathlib.Core.List.{List, [], _∷_}
-use Prim.Native.Nat.{ℕ, _+_, _≤_}
+use Prim.Native.Nat.{ℕ, _+_}
 use lib.Dec.{eqb, ltb}
 use lib.ListN.{length, getD, replicate}
 use Rattle.text.specs.Split.{pick, first, later, split}
@@ -12,22 +12,11 @@ use Rattle.line.specs.Line.{lineOf}
 use Rattle.line.specs.declared.Line.{Line}
 use Rattle.line.specs.declared.Word.{Word}
 use Rattle.line.specs.declared.Word.the-variants as W
-use Rattle.rows.specs.declared.State.{State}
-use Rattle.rows.specs.declared.Step.{Step}
-use Rattle.rows.specs.declared.Ended.{Ended}
+use Rattle.rows.specs.State.{State, Step, Ended, before}
 
--- before the first line
+-- before the first line no fact has a rank
 unfoldable pub startState : State
-startState = record {
-  begun = 0;
-  rounds = 0;
-  headcount = 0;
-  triplecount = 0;
-  heads = 0;
-  triples = 0;
-  headcells = replicate 256 absent;
-  triplecells = replicate 2048 absent;
-}
+startState = before (replicate 256 absent) (replicate 2048 absent)
 
 -- a line that is refused changes nothing
 abbrev pub refuse : ℕ → State → Step
@@ -152,10 +141,5 @@ abbrev pub longest : ℕ
 longest = 45056
 
 -- a whole text from its first line on, unless it is too long
-abbrev pub readText : Size → List ℕ → Ended
-readText z text = pick (ltb longest (length text)) (ends 1 0 startState) (readLines z 1 startState text)
-
--- the counts of lines are not so large that one more could wrap
-pub record Counted (s : State) : Type 0 where
-  pub heads : s .heads ≤ 50000
-  pub triples : s .triples ≤ 50000
+abbrev pub readText : Size → State → List ℕ → Ended
+readText z s text = pick (ltb longest (length text)) (ends 1 0 s) (readLines z 1 s text)

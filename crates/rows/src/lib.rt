@@ -2,127 +2,120 @@
 ghost use mathlib.Core.Path.{_≡_};
 ghost use Prim.Native.Nat.{ℕ, _≤_};
 ghost use lib.ListN.{length};
-ghost use Rattle.rows.specs.Lines.{startState, safeStep, headStep, tripleStep, listed, stepOf, agreement, finished, readLines, readText, Counted};
+ghost use mathlib.Core.List.{List};
+ghost use Rattle.rows.specs.Lines.{safeStep, headStep, tripleStep, listed, stepOf, agreement, finished, readLines, readText};
+ghost use Rattle.rows.specs.State.{nothing, whole, before, stepped, ended, Counted};
 use line::Line;
 use line::Word;
 use ranking::LARGEST;
-use table::ABSENT;
 use table::Size;
 
 // The most bytes of a listing.
 const LONGEST: usize = 45056;
 
-// What is read so far: the header, how many lines of each kind came, and the ranks that they gave. They are collected here, so that
-// nothing is written if a later line is refused.
-pub struct State {
+// What is read so far beside the ranks: the header, and how many lines of each kind came. The ranks are collected in two lent arrays.
+pub struct Tally {
     pub begun: u8,
     pub rounds: u16,
     pub headcount: u32,
     pub triplecount: u32,
     pub heads: u32,
     pub triples: u32,
-    pub headcells: [u16; 256],
-    pub triplecells: [u16; 2048],
 }
 
-// What a line does: the document's number of its refusal, or 0, and the state after it.
-pub struct Step {
+// What a line does: the document's number of its refusal, or 0, and the tally after it.
+pub struct Tallied {
     pub refusal: u8,
-    pub state: State,
+    pub tally: Tally,
 }
 
 // Where the reading ended, and why.
-pub struct Ended {
+pub struct End {
     pub refusal: u8,
     pub line: usize,
-    pub state: State,
+    pub tally: Tally,
 }
 
-fn start() -> State
-    ensures { λ r. ⌜ r ≡ startState ⌝ }
+// Before the first line.
+fn nothing() -> Tally
+    ensures { λ r. ⌜ r ≡ nothing ⌝ }
 {
-    let headcells = [ABSENT; 256];
-    let triplecells = [ABSENT; 2048];
-    State {
+    Tally {
         begun: 0,
         rounds: 0,
         headcount: 0,
         triplecount: 0,
         heads: 0,
         triples: 0,
-        headcells,
-        triplecells,
     }
 }
 
 // The header.
-fn take_safe(s: State, a: u32, b: u32, c: u32) -> Step
-    ensures { λ r. ⌜ r ≡ safeStep s a b c ⌝ }
+fn take_safe(t: Tally, a: u32, b: u32, c: u32) -> Tallied
+    ensures { λ r. ⌜ ((hs ts : List ℕ) → stepped r hs ts ≡ safeStep (whole t hs ts) a b c) ⌝ }
 {
-    if s.begun != 0 {
-        return Step {
+    if t.begun != 0 {
+        return Tallied {
             refusal: 3,
-            state: s,
+            tally: t,
         };
     }
     if LARGEST < a {
-        return Step {
+        return Tallied {
             refusal: 4,
-            state: s,
+            tally: t,
         };
     }
-    let mut next = s;
+    let mut next = t;
     next.begun = 1;
     next.rounds = a as u16;
     next.headcount = b;
     next.triplecount = c;
-    Step {
+    Tallied {
         refusal: 0,
-        state: next,
+        tally: next,
     }
 }
 
 // A head's line.
-fn take_head(size: Size, s: State, q: u32, g: u32, rank: u32) -> Step
-    requires { ⌜ Counted s ⌝ }
-    ensures { λ r. ⌜ r ≡ headStep size s q g rank ⌝ }
+fn take_head(heads: &mut [u16], size: Size, t: Tally, q: u32, g: u32, rank: u32) -> Tallied
+    requires { ⌜ Counted t ⌝ }
+    ensures { λ r. ⌜ ((ts : List ℕ) → stepped r (now (heads .exit)) ts ≡ headStep size (whole t (now (heads .entry)) ts) q g rank) ⌝ }
 {
-    let mut cells = s.headcells;
-    let f = ranking::rank_head(&mut cells, size, s.begun, q, g, rank);
-    if f != 0 {
-        return Step {
-            refusal: f,
-            state: s,
-        };
+    let refusal = ranking::rank_head(heads, size, t.begun, q, g, rank);
+    if refusal != 0 {
+        return Tallied { refusal, tally: t };
     }
-    let mut next = s;
-    next.heads = s.heads + 1;
-    next.headcells = cells;
-    Step {
+    let mut next = t;
+    next.heads = t.heads + 1;
+    Tallied {
         refusal: 0,
-        state: next,
+        tally: next,
     }
 }
 
 // A triple's line.
-fn take_triple(size: Size, s: State, q: u32, g: u32, e: u32, rank: u32) -> Step
-    requires { ⌜ Counted s ⌝ }
-    ensures { λ r. ⌜ r ≡ tripleStep size s q g e rank ⌝ }
+fn take_triple(
+    triples: &mut [u16],
+    size: Size,
+    t: Tally,
+    q: u32,
+    g: u32,
+    e: u32,
+    rank: u32,
+) -> Tallied
+    requires { ⌜ Counted t ⌝ }
+    ensures { λ r. ⌜ ((hs : List ℕ) → stepped r hs (now (triples .exit)) ≡ tripleStep size (whole t hs (now (triples .entry))) q g e rank) ⌝ }
 {
-    let mut cells = s.triplecells;
-    let f = ranking::rank_triple(&mut cells, size, s.begun, q, g, e, rank);
-    if f != 0 {
-        return Step {
-            refusal: f,
-            state: s,
-        };
+    let refusal = ranking::rank_triple(triples, size, t.begun, q, g, e, rank);
+    if refusal != 0 {
+        return Tallied { refusal, tally: t };
     }
-    let mut next = s;
-    next.triples = s.triples + 1;
-    next.triplecells = cells;
-    Step {
+    let mut next = t;
+    next.triples = t.triples + 1;
+    Tallied {
         refusal: 0,
-        state: next,
+        tally: next,
     }
 }
 
@@ -147,26 +140,26 @@ fn listed(w: Word) -> u8
 }
 
 // What a line does.
-fn take_line(size: Size, s: State, l: Line) -> Step
-    requires { ⌜ Counted s ⌝ }
-    ensures { λ r. ⌜ r ≡ stepOf size s l ⌝ }
+fn take_line(heads: &mut [u16], triples: &mut [u16], size: Size, t: Tally, l: Line) -> Tallied
+    requires { ⌜ Counted t ⌝ }
+    ensures { λ r. ⌜ stepped r (now (heads .exit)) (now (triples .exit)) ≡ stepOf size (whole t (now (heads .entry)) (now (triples .entry))) l ⌝ }
 {
     let w = l.word;
     let numbers = l.numbers;
     let n = numbers.at;
     let kind = listed(w);
     if kind == 1 {
-        return take_safe(s, n[0], n[1], n[2]);
+        return take_safe(t, n[0], n[1], n[2]);
     }
     if kind == 2 {
-        return take_head(size, s, n[0], n[1], n[2]);
+        return take_head(heads, size, t, n[0], n[1], n[2]);
     }
     if kind == 3 {
-        return take_triple(size, s, n[0], n[1], n[2], n[3]);
+        return take_triple(triples, size, t, n[0], n[1], n[2], n[3]);
     }
-    Step {
+    Tallied {
         refusal: 2,
-        state: s,
+        tally: t,
     }
 }
 
@@ -187,63 +180,63 @@ fn agrees(begun: u8, heads: u32, headcount: u32, triples: u32, triplecount: u32)
 }
 
 // After the last line.
-fn finish(s: State) -> Ended
-    ensures { λ r. ⌜ r ≡ finished s ⌝ }
+fn finish(t: Tally) -> End
+    ensures { λ r. ⌜ ((hs ts : List ℕ) → ended r hs ts ≡ finished (whole t hs ts)) ⌝ }
 {
-    let refusal = agrees(s.begun, s.heads, s.headcount, s.triples, s.triplecount);
-    Ended {
+    let refusal = agrees(t.begun, t.heads, t.headcount, t.triples, t.triplecount);
+    End {
         refusal,
         line: 0,
-        state: s,
+        tally: t,
     }
 }
 
 // The lines of a text, one after another; the first that is refused ends the reading.
-fn read_lines(size: Size, text: &[u8]) -> Ended
+fn read_lines(heads: &mut [u16], triples: &mut [u16], size: Size, text: &[u8]) -> End
     requires { ⌜ length (now text) ≤ 45056 ⌝ }
-    ensures { λ r. ⌜ r ≡ readLines size 1 startState (now (text .entry)) ⌝ }
+    ensures { λ r. ⌜ ended r (now (heads .exit)) (now (triples .exit)) ≡ readLines size 1 (before (now (heads .entry)) (now (triples .entry))) (now (text .entry)) ⌝ }
 {
-    let mut s = start();
+    let mut t = nothing();
     let mut rest = text;
     let mut line: usize = 1;
-    let mut e = text::find(rest, b'\n');
-    while e < rest.len() {
-        let l = line::read_line(&rest[..e]);
-        let t = take_line(size, s, l);
-        let refusal = t.refusal;
-        if refusal != 0 {
-            return Ended {
-                refusal,
+    while 0 < rest.len() {
+        let l = line::read_line(rest);
+        let e = l.end;
+        if rest.len() <= e {
+            return End {
+                refusal: 2,
                 line,
-                state: s,
+                tally: t,
             };
         }
-        s = t.state;
+        let said = l.line;
+        let r = take_line(heads, triples, size, t, said);
+        let refusal = r.refusal;
+        t = r.tally;
+        if refusal != 0 {
+            return End {
+                refusal,
+                line,
+                tally: t,
+            };
+        }
         line += 1;
         let b = e + 1;
         rest = &rest[b..];
-        e = text::find(rest, b'\n');
     }
-    if 0 < rest.len() {
-        return Ended {
-            refusal: 2,
-            line,
-            state: s,
-        };
-    }
-    finish(s)
+    finish(t)
 }
 
-// A whole text, unless it is too long.
-pub fn read_text(size: Size, text: &[u8]) -> Ended
-    ensures { λ r. ⌜ r ≡ readText size (now (text .entry)) ⌝ }
+// A whole text, unless it is too long; its ranks come to those in the two lent arrays.
+pub fn read_text(heads: &mut [u16], triples: &mut [u16], size: Size, text: &[u8]) -> End
+    ensures { λ r. ⌜ ended r (now (heads .exit)) (now (triples .exit)) ≡ readText size (before (now (heads .entry)) (now (triples .entry))) (now (text .entry)) ⌝ }
 {
     if LONGEST < text.len() {
-        return Ended {
+        return End {
             refusal: 1,
             line: 0,
-            state: start(),
+            tally: nothing(),
         };
     }
-    read_lines(size, text)
+    read_lines(heads, triples, size, text)
 }

@@ -1,2 +1,3 @@
 -- Where a text is parted in a model and a listing. Assumes nothing.
 pub mod Part
+pub mod Search

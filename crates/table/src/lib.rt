@@ -1,5 +1,6 @@
 // The two lent arrays of a table: 16-bit ranks, 65,535 for a fact that isn't held. Here alone is said where a fact's cell lies.
 ghost use mathlib.Core.Path.{_≡_};
+ghost use Prim.Native.Nat.{_≤_};
 ghost use lib.ListN.{length};
 ghost use Rattle.table.specs.Cells.{headCount, tripleCount, longEnough, headIn, tripleIn, putHead, putTriple, cleared};
 ghost use Rattle.table.specs.Places.{headPlace, triplePlace, readAt, putAt};
@@ -123,16 +124,26 @@ pub fn put_triple(triples: &mut [u16], size: Size, q: usize, g: usize, e: usize,
     put(triples, triple_place(size, q, g, e), n);
 }
 
-// Marks the first n cells absent, or all where there are fewer.
-pub fn clear(cells: &mut [u16], n: usize)
+// Marks the first n cells absent.
+fn fill(cells: &mut [u16], n: usize)
+    requires { ⌜ n ≤ length (now cells) ⌝ }
     ensures { λ _. ⌜ now (cells .exit) ≡ cleared n (now (cells .entry)) ⌝ }
 {
     let mut i = 0;
     while i < n {
-        if cells.len() <= i {
-            return;
-        }
         cells[i] = ABSENT;
         i += 1;
     }
+}
+
+// The same, or all where there are fewer.
+pub fn clear(cells: &mut [u16], n: usize)
+    ensures { λ _. ⌜ now (cells .exit) ≡ cleared n (now (cells .entry)) ⌝ }
+{
+    let all = cells.len();
+    if all < n {
+        fill(cells, all);
+        return;
+    }
+    fill(cells, n);
 }

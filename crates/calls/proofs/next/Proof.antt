@@ -6,17 +6,11 @@ use borrow.Author.Needs.{needs}
 use Rattle.calls.proofs.next.Statement.{statement}
 use Rattle.calls.proofs.next.Tie as tie
 
-find-requires : tie.Need-find-requires
-find-requires c κs = search needs
+read-fields-requires : tie.Need-read-fields-requires
+read-fields-requires c κs = search needs
 
 returns : tie.Need-returns
 returns c = search needs
-
-slice-aggregate-read-numbers : tie.Need-slice-aggregate-read-numbers
-slice-aggregate-read-numbers c = sym (length-take-le _ _ (omega arith))
-
-read-numbers-requires : tie.Need-read-numbers-requires
-read-numbers-requires c κs = search needs
 
 returns-2 : tie.Need-returns-2
 returns-2 c = search needs
@@ -55,22 +49,4 @@ returns-4 : tie.Need-returns-4
 returns-4 c = search needs
 
 pub next-spec : {M : Type 1} → statement M
-next-spec =
-    tie.close
-    (tie.spec
-    find-requires
-    returns
-    slice-aggregate-read-numbers
-    read-numbers-requires
-    returns-2
-    array-read-whole
-    whole-requires
-    add-b
-    sub-rest
-    part-rest-start
-    part-rest-end
-    returns-3
-    slice-aggregate-answer
-    answer-requires
-    add-result
-    returns-4)
+next-spec = tie.close (tie.spec read-fields-requires returns returns-2 array-read-whole whole-requires add-b sub-rest part-rest-start part-rest-end returns-3 slice-aggregate-answer answer-requires add-result returns-4)

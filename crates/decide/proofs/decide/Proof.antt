@@ -1,6 +1,6 @@
 -- `decide::decide` meets its contract. Assumes nothing.
 use borrow.Author.Needs.{needs}
-use Rattle.decide.proofs.Tested.{invalid, short, ready, done}
+use Rattle.decide.proofs.Tested.{invalid, short, able, done}
 use Rattle.decide.proofs.decide.Statement.{statement}
 use Rattle.decide.proofs.decide.Tie as tie
 
@@ -29,7 +29,7 @@ returns-2 c =
 run-requires : tie.Need-run-requires
 run-requires c κs =
     let a = c .before .before .before .before .before .before .before .before .before .before .args in
-    ready (a .m) (a .budget) (a .heads .now) (a .triples .now) (c .before .before .before .before .before .before .before .is-valid .ensures) (c .before .before .before .before .before .before .if1 .left) (c .before .before .before .long-enough .ensures) (c .before .before .if2 .left)
+    able (a .m) (a .budget) (a .heads .now) (a .triples .now) (c .before .before .before .before .before .before .before .is-valid .ensures) (c .before .before .before .before .before .before .if1 .left) (c .before .before .before .long-enough .ensures) (c .before .before .if2 .left)
 
 same-length-3 : tie.Need-same-length-3
 same-length-3 c = search needs

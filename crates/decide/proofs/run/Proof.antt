@@ -1,114 +1,113 @@
--- `decide::run` meets its contract. The invariant: after round n the arrays hold the ranks up to n, and the rounds before it went on, so that n is at
--- most 2304, the number of all facts. Assumes nothing.
-use mathlib.Core.Path.{_≡_, refl, _∙_}
-use Prim.Native.Nat.{_≤_, _-_}
+use mathlib.Core.Path.{refl, _∙_}
+use Rattle.model.specs.Model.{productOf}
+use Rattle.model.proofs.Valid.{valid-sizes}
+use Rattle.decide.proofs.Starting.{q-in, g-in, one-low, starts, ran, heads-as-long, triples-as-long}
 use native.Mathlib.Omega.{arith}
-use lib.ListN.{length}
 use borrow.Author.Needs.{needs}
-use Rattle.ways.specs.Taken.{arrays}
-use Rattle.decide.proofs.Going.{Going, from-start, violates, is-safe, is-spent, room, next}
 use Rattle.decide.proofs.run.Statement.{statement}
 use Rattle.decide.proofs.run.Tie as tie
+use Rattle.decide.proofs.run.Reads as reads
+use Rattle.decide.proofs.run.Lts as lts
+use Rattle.decide.proofs.build.exits.Reads as exits-reads
+use Rattle.decide.proofs.build.final_states.Reads as final-states-reads
+use Rattle.decide.proofs.build.symbols.Reads as symbols-reads
+use Rattle.decide.proofs.build.uses.Reads as uses-reads
+use Rattle.decide.proofs.rounds.run.Reads as run-reads
+use Rattle.decide.proofs.sets.collect.Reads as collect-reads
+use Rattle.decide.proofs.start.Reads as start-reads
+use Rattle.steps.proofs.class_steps.Reads as class-steps-reads
 
-abbrev Inv-loop : tie.InvT-loop
-Inv-loop heads₀ triples₀ budget m size q g n₀ heads triples n = (n ≤ 2304) × (length heads ≡ length heads₀) × (length triples ≡ length triples₀) × Going m budget (arrays heads₀ triples₀) n (arrays heads triples)
-
-abbrev μ-loop : tie.MeasureT-loop
-μ-loop heads₀ triples₀ budget m size q g n₀ heads triples n = 2305 - n
-
-cast-q : tie.Need-cast-q Inv-loop μ-loop
+-- src/lib.rt:47:13
+cast-q : tie.Need-cast-q
 cast-q c = search needs
 
-cast-g : tie.Need-cast-g Inv-loop μ-loop
+-- src/lib.rt:48:13
+cast-g : tie.Need-cast-g
 cast-g c = search needs
 
-start-requires : tie.Need-start-requires Inv-loop μ-loop
+-- src/lib.rt:49:5
+start-requires : tie.Need-start-requires
 start-requires c κs = search needs
 
-loop-holds : tie.Need-loop-holds Inv-loop μ-loop
-loop-holds c = (omega arith, refl, refl, from-start (c .before .before .before .before .before .before .before .before .before .pre) (c .before .before .before .before .start .ensures) (c .before .before .before .before .before .before .before .before .before .args .budget))
+-- src/lib.rt:50:65
+cast-class-steps : tie.Need-cast-class-steps
+cast-class-steps c = search needs
 
-is-clean-requires : tie.Need-is-clean-requires Inv-loop μ-loop
-is-clean-requires c κs = search needs
+-- src/lib.rt:50:14
+class-steps-requires : tie.Need-class-steps-requires
+class-steps-requires c κs = search needs
 
-same-length : tie.Need-same-length Inv-loop μ-loop
-same-length c = search needs
+-- src/lib.rt:51:14
+symbols-requires : tie.Need-symbols-requires
+symbols-requires c κs = search needs
 
-same-length-2 : tie.Need-same-length-2 Inv-loop μ-loop
-same-length-2 c = search needs
+-- src/lib.rt:52:14
+uses-requires : tie.Need-uses-requires
+uses-requires c κs = valid-sizes (c .before .before .before .before .before .before .before .before .before .before .before .before .before .before .before .before .args .t3) (c .before .before .before .before .before .before .before .before .before .before .before .before .before .before .before .before .pre .valid-model) .rules
 
-returns : tie.Need-returns Inv-loop μ-loop
-returns c = violates (c .before .before .before .before .before .before .before .before .before .before .before .before .before .before .before .before .pre) (c .before .before .before .before .before .before .before .before .before .before .before .start .ensures) (c .before .before .before .before .before .before .loop .inv .3) (c .before .is-clean .ensures) (c .if1 .taken)
+-- src/lib.rt:53:9
+exits-requires : tie.Need-exits-requires
+exits-requires c κs = valid-sizes (c .before .before .before .before .before .before .before .before .before .before .before .before .before .before .before .before .before .before .before .args .t3) (c .before .before .before .before .before .before .before .before .before .before .before .before .before .before .before .before .before .before .before .pre .valid-model) .rules
 
-quiet-requires : tie.Need-quiet-requires Inv-loop μ-loop
-quiet-requires c κs = search needs
+-- src/lib.rt:54:35
+shl-collect : tie.Need-shl-collect
+shl-collect c = omega (arith, g-in (c .before .before .before .before .before .before .before .before .before .before .before .before .before .before .before .before .before .before .before .before .before .args .t3) (c .before .before .before .before .before .before .before .before .before .before .before .before .before .before .before .before .before .before .before .before .before .pre .valid-model))
 
-same-length-3 : tie.Need-same-length-3 Inv-loop μ-loop
-same-length-3 c = search needs
+-- src/lib.rt:54:9
+collect-requires : tie.Need-collect-requires
+collect-requires c κs = (omega arith, (one-low (c .before .before .before .before .before .before .before .before .before .before .before .before .before .before .before .before .before .before .before .before .before .args .t3 .startsymbol) (g-in (c .before .before .before .before .before .before .before .before .before .before .before .before .before .before .before .before .before .before .before .before .before .args .t3) (c .before .before .before .before .before .before .before .before .before .before .before .before .before .before .before .before .before .before .before .before .before .pre .valid-model)), refl))
 
-same-length-4 : tie.Need-same-length-4 Inv-loop μ-loop
-same-length-4 c = search needs
+-- src/lib.rt:55:9
+final-states-requires : tie.Need-final-states-requires
+final-states-requires c κs = search needs
 
-returns-2 : tie.Need-returns-2 Inv-loop μ-loop
-returns-2 c = is-safe (c .before .before .before .before .before .before .before .before .before .before .before .before .before .before .before .before .before .before .before .before .pre) (c .before .before .before .before .before .before .before .before .before .before .before .before .before .before .before .start .ensures) (c .before .before .before .before .before .before .before .before .before .before .loop .inv .3) (c .before .before .before .before .before .is-clean .ensures) (c .before .before .before .before .if1 .left) (c .before .quiet .ensures) (c .if2 .taken)
+-- src/lib.rt:58:13
+shl-hd : tie.Need-shl-hd
+shl-hd c = omega (arith, q-in (c .before .before .before .before .before .before .before .before .before .before .before .before .before .before .before .before .before .before .before .before .before .before .before .before .before .args .t3) (c .before .before .before .before .before .before .before .before .before .before .before .before .before .before .before .before .before .before .before .before .before .before .before .before .before .pre .valid-model))
 
-cast-if3 : tie.Need-cast-if3 Inv-loop μ-loop
-cast-if3 c = search needs
+-- src/lib.rt:58:5
+mul-hd : tie.Need-mul-hd
+mul-hd c = let h = g-in (c .before .before .before .before .before .before .before .before .before .before .before .before .before .before .before .before .before .before .before .before .before .before .before .before .before .args .t3) (c .before .before .before .before .before .before .before .before .before .before .before .before .before .before .before .before .before .before .before .before .before .before .before .before .before .pre .valid-model) in search needs
 
-same-length-5 : tie.Need-same-length-5 Inv-loop μ-loop
-same-length-5 c = search needs
+-- src/lib.rt:58:5
+array-write-hd : tie.Need-array-write-hd
+array-write-hd c = g-in (c .before .before .before .before .before .before .before .before .before .before .before .before .before .before .before .before .before .before .before .before .before .before .before .before .before .args .t3) (c .before .before .before .before .before .before .before .before .before .before .before .before .before .before .before .before .before .before .before .before .before .before .before .before .before .pre .valid-model)
 
-same-length-6 : tie.Need-same-length-6 Inv-loop μ-loop
-same-length-6 c = search needs
+-- src/lib.rt:59:5
+run-requires : tie.Need-run-requires
+run-requires c κs = (productOf (c .before .before .before .before .before .before .before .before .before .before .before .before .before .before .before .before .before .before .before .before .before .before .before .before .before .before .before .before .before .before .before .before .before .before .args .t3), starts (c .before .before .before .before .before .before .before .before .before .before .before .before .before .before .before .before .before .before .before .before .before .before .before .before .before .before .before .before .before .before .before .before .before .before .args .t3) (c .before .before .before .before .before .before .before .before .before .before .before .before .before .before .before .before .before .before .before .before .before .before .before .before .before .before .before .before .before .before .before .before .before .before .pre .valid-model) (c .before .before .before .before .before .before .before .before .before .before .before .before .before .before .before .before .before .before .before .before .before .before .before .before .before .before .before .before .before .before .before .before .before .before .pre) (c .before .before .before .before .before .before .before .before .before .before .before .before .before .before .before .before .before .before .before .before .before .before .before .before .before .before .before .before .before .start .ensures) (c .before .before .before .before .before .before .before .before .before .before .before .before .before .before .before .before .before .uses .ensures) (c .before .before .before .before .before .before .before .before .before .before .before .before .before .before .exits .ensures) (c .before .before .before .before .before .before .before .before .before .before .before .before .collect .ensures) (c .before .before .before .before .before .before .before .before .before .before .before .before .before .before .before .before .before .before .before .before .symbols .ensures) (c .before .before .before .before .before .before .before .before .before .before .before .before .before .before .before .before .before .before .before .before .before .class-steps .ensures) (c .before .before .before .before .before .before .before .before .before .final-states .ensures))
 
-returns-3 : tie.Need-returns-3 Inv-loop μ-loop
-returns-3 c = is-spent (c .before .before .before .before .before .before .before .before .before .before .before .before .before .before .before .before .before .before .before .before .before .pre) (c .before .before .before .before .before .before .before .before .before .before .before .before .before .before .before .before .start .ensures) (c .before .before .before .before .before .before .before .before .before .before .before .loop .inv .3) (c .before .before .before .before .before .before .is-clean .ensures) (c .before .before .before .before .before .if1 .left) (c .before .before .quiet .ensures) (c .before .if2 .left) (c .if3 .taken)
+-- src/lib.rt:39:1
+same-length : tie.Need-same-length
+same-length c = (c .before .before .before .before .run .ensures (productOf (c .before .before .before .before .before .before .before .before .before .before .before .before .before .before .before .before .before .before .before .before .before .before .before .before .before .before .before .before .before .before .before .before .before .before .before .before .before .before .before .args .t3)) (starts (c .before .before .before .before .before .before .before .before .before .before .before .before .before .before .before .before .before .before .before .before .before .before .before .before .before .before .before .before .before .before .before .before .before .before .before .before .before .before .before .args .t3) (c .before .before .before .before .before .before .before .before .before .before .before .before .before .before .before .before .before .before .before .before .before .before .before .before .before .before .before .before .before .before .before .before .before .before .before .before .before .before .before .pre .valid-model) (c .before .before .before .before .before .before .before .before .before .before .before .before .before .before .before .before .before .before .before .before .before .before .before .before .before .before .before .before .before .before .before .before .before .before .before .before .before .before .before .pre) (c .before .before .before .before .before .before .before .before .before .before .before .before .before .before .before .before .before .before .before .before .before .before .before .before .before .before .before .before .before .before .before .before .before .before .start .ensures) (c .before .before .before .before .before .before .before .before .before .before .before .before .before .before .before .before .before .before .before .before .before .before .uses .ensures) (c .before .before .before .before .before .before .before .before .before .before .before .before .before .before .before .before .before .before .before .exits .ensures) (c .before .before .before .before .before .before .before .before .before .before .before .before .before .before .before .before .before .collect .ensures) (c .before .before .before .before .before .before .before .before .before .before .before .before .before .before .before .before .before .before .before .before .before .before .before .before .before .symbols .ensures) (c .before .before .before .before .before .before .before .before .before .before .before .before .before .before .before .before .before .before .before .before .before .before .before .before .before .before .class-steps .ensures) (c .before .before .before .before .before .before .before .before .before .before .before .before .before .before .final-states .ensures))) .heads-kept .as-long ∙ heads-as-long (c .before .before .before .before .before .before .before .before .before .before .before .before .before .before .before .before .before .before .before .before .before .before .before .before .before .before .before .before .before .before .before .before .before .before .before .before .before .before .before .args .t3) (c .before .before .before .before .before .before .before .before .before .before .before .before .before .before .before .before .before .before .before .before .before .before .before .before .before .before .before .before .before .before .before .before .before .before .before .before .before .before .before .pre .valid-model) (c .before .before .before .before .before .before .before .before .before .before .before .before .before .before .before .before .before .before .before .before .before .before .before .before .before .before .before .before .before .before .before .before .before .before .before .before .before .before .before .pre) (c .before .before .before .before .before .before .before .before .before .before .before .before .before .before .before .before .before .before .before .before .before .before .before .before .before .before .before .before .before .before .before .before .before .before .start .ensures)
 
-add-n : tie.Need-add-n Inv-loop μ-loop
-add-n c = search needs
+-- src/lib.rt:39:1
+same-length-2 : tie.Need-same-length-2
+same-length-2 c = (c .before .before .before .before .run .ensures (productOf (c .before .before .before .before .before .before .before .before .before .before .before .before .before .before .before .before .before .before .before .before .before .before .before .before .before .before .before .before .before .before .before .before .before .before .before .before .before .before .before .args .t3)) (starts (c .before .before .before .before .before .before .before .before .before .before .before .before .before .before .before .before .before .before .before .before .before .before .before .before .before .before .before .before .before .before .before .before .before .before .before .before .before .before .before .args .t3) (c .before .before .before .before .before .before .before .before .before .before .before .before .before .before .before .before .before .before .before .before .before .before .before .before .before .before .before .before .before .before .before .before .before .before .before .before .before .before .before .pre .valid-model) (c .before .before .before .before .before .before .before .before .before .before .before .before .before .before .before .before .before .before .before .before .before .before .before .before .before .before .before .before .before .before .before .before .before .before .before .before .before .before .before .pre) (c .before .before .before .before .before .before .before .before .before .before .before .before .before .before .before .before .before .before .before .before .before .before .before .before .before .before .before .before .before .before .before .before .before .before .start .ensures) (c .before .before .before .before .before .before .before .before .before .before .before .before .before .before .before .before .before .before .before .before .before .before .uses .ensures) (c .before .before .before .before .before .before .before .before .before .before .before .before .before .before .before .before .before .before .before .exits .ensures) (c .before .before .before .before .before .before .before .before .before .before .before .before .before .before .before .before .before .collect .ensures) (c .before .before .before .before .before .before .before .before .before .before .before .before .before .before .before .before .before .before .before .before .before .before .before .before .before .symbols .ensures) (c .before .before .before .before .before .before .before .before .before .before .before .before .before .before .before .before .before .before .before .before .before .before .before .before .before .before .class-steps .ensures) (c .before .before .before .before .before .before .before .before .before .before .before .before .before .before .final-states .ensures))) .triples-kept .as-long ∙ triples-as-long (c .before .before .before .before .before .before .before .before .before .before .before .before .before .before .before .before .before .before .before .before .before .before .before .before .before .before .before .before .before .before .before .before .before .before .before .before .before .before .before .args .t3) (c .before .before .before .before .before .before .before .before .before .before .before .before .before .before .before .before .before .before .before .before .before .before .before .before .before .before .before .before .before .before .before .before .before .before .before .before .before .before .before .pre .valid-model) (c .before .before .before .before .before .before .before .before .before .before .before .before .before .before .before .before .before .before .before .before .before .before .before .before .before .before .before .before .before .before .before .before .before .before .before .before .before .before .before .pre) (c .before .before .before .before .before .before .before .before .before .before .before .before .before .before .before .before .before .before .before .before .before .before .before .before .before .before .before .before .before .before .before .before .before .before .start .ensures)
 
-round-requires : tie.Need-round-requires Inv-loop μ-loop
-round-requires c κs = search needs
-
-loop-less : tie.Need-loop-less Inv-loop μ-loop
-loop-less c = search needs
-
-loop-again : tie.Need-loop-again Inv-loop μ-loop
-loop-again c =
-    let p = c .before .before .before .before .before .before .before .before .before .before .before .before .before .before .before .before .before .before .before .before .before .before .before .before .before .before .before .before .pre in
-    let s = c .before .before .before .before .before .before .before .before .before .before .before .before .before .before .before .before .before .before .before .before .before .before .before .start .ensures in
-    let g = c .before .before .before .before .before .before .before .before .before .before .before .before .before .before .before .before .before .before .loop .inv in
-    let l = c .before .before .before .before .before .before .before .before .before .before .before .before .before .is-clean .ensures in
-    let q = c .before .before .before .before .before .before .before .before .before .quiet .ensures in (
-      omega (arith, room p s (g .3) l (c .before .before .before .before .before .before .before .before .before .before .before .before .if1 .left) q (c .before .before .before .before .before .before .before .before .if2 .left)),
-      c .before .before .before .before .round .kept .0 ∙ g .1,
-      c .before .before .before .before .round .kept .1 .0 ∙ g .2,
-      next p s (g .3) l (c .before .before .before .before .before .before .before .before .before .before .before .before .if1 .left) q (c .before .before .before .before .before .before .before .before .if2 .left) (c .before .before .before .before .before .before .before .if3 .left) (c .before .before .before .before .round .ensures),
-    )
+-- src/lib.rt:39:1
+returns : tie.Need-returns
+returns c = ran (c .before .before .before .before .before .before .before .before .before .before .before .before .before .before .before .before .before .before .before .before .before .before .before .before .before .before .before .before .before .before .before .before .before .before .before .before .before .before .before .args .t3) (c .before .before .before .before .before .before .before .before .before .before .before .before .before .before .before .before .before .before .before .before .before .before .before .before .before .before .before .before .before .before .before .before .before .before .before .before .before .before .before .pre .valid-model) (c .before .before .before .before .before .before .before .before .before .before .before .before .before .before .before .before .before .before .before .before .before .before .before .before .before .before .before .before .before .before .before .before .before .before .before .before .before .before .before .pre) (c .before .before .before .before .before .before .before .before .before .before .before .before .before .before .before .before .before .before .before .before .before .before .before .before .before .before .before .before .before .before .before .before .before .before .start .ensures) (c .before .before .before .before .before .before .before .before .before .before .before .before .before .before .before .before .before .before .before .before .before .before .uses .ensures) (c .before .before .before .before .before .before .before .before .before .before .before .before .before .before .before .before .before .before .before .exits .ensures) (c .before .before .before .before .before .before .before .before .before .before .before .before .before .before .before .before .before .collect .ensures) (c .before .before .before .before .before .before .before .before .before .before .before .before .before .before .before .before .before .before .before .before .before .before .before .before .before .symbols .ensures) (c .before .before .before .before .before .before .before .before .before .before .before .before .before .before .before .before .before .before .before .before .before .before .before .before .before .before .class-steps .ensures) (c .before .before .before .before .before .before .before .before .before .before .before .before .before .before .final-states .ensures) (c .before .before .before .before .run .ensures)
 
 pub run-spec : {M : Type 1} → statement M
 run-spec =
     tie.close
     (tie.spec
-    Inv-loop
-    μ-loop
     cast-q
     cast-g
     start-requires
-    loop-holds
-    is-clean-requires
+    cast-class-steps
+    class-steps-requires
+    symbols-requires
+    uses-requires
+    exits-requires
+    shl-collect
+    collect-requires
+    final-states-requires
+    shl-hd
+    mul-hd
+    array-write-hd
+    run-requires
     same-length
     same-length-2
-    returns
-    quiet-requires
-    same-length-3
-    same-length-4
-    returns-2
-    cast-if3
-    same-length-5
-    same-length-6
-    returns-3
-    add-n
-    round-requires
-    loop-less
-    loop-again)
+    returns)

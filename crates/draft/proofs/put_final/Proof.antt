@@ -1,20 +1,21 @@
 -- `draft::put_final` meets its contract. Assumes nothing.
-use native.Mathlib.Omega.{arith}
-use mathlib.Core.Path.{_≡_}
-use lib.ListN.{length}
-use Rattle.draft.proofs.Stores.{final-past}
+use mathlib.Core.Path.{sym}
+use lib.Seq.{set-out}
 use borrow.Author.Needs.{needs}
 use Rattle.draft.proofs.put_final.Statement.{statement}
 use Rattle.draft.proofs.put_final.Tie as tie
 
-returns : tie.Need-returns
-returns c = let e : length (c .before .before .args .d .model .finals) ≡ 8 = search needs in final-past _ _ (omega arith)
+slice-write-finals : tie.Need-slice-write-finals
+slice-write-finals c = search needs
 
-element-write-m : tie.Need-element-write-m
-element-write-m c = search needs
+same-length : tie.Need-same-length
+same-length c = search needs
+
+returns : tie.Need-returns
+returns c = search needs
 
 returns-2 : tie.Need-returns-2
-returns-2 c = search needs
+returns-2 c = sym (set-out _ _ _ (c .if1 .left))
 
 pub put-final-spec : {M : Type 1} → statement M
-put-final-spec = tie.close (tie.spec returns element-write-m returns-2)
+put-final-spec = tie.close (tie.spec slice-write-finals same-length returns returns-2)

@@ -21,11 +21,4 @@ unfolding takeLine
 returns c = c .put-word .ensures
 
 pub take-line-spec : {M : Type 1} → statement M
-take-line-spec =
-    tie.close
-    (tie.spec
-    array-read-put-word
-    array-read-put-word-2
-    array-read-put-word-3
-    put-word-requires
-    returns)
+take-line-spec = tie.close (tie.spec array-read-put-word array-read-put-word-2 array-read-put-word-3 put-word-requires returns)

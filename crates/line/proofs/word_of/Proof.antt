@@ -1,115 +1,41 @@
--- `line::word_of` meets its contract: each call passes on, where its word is not spelled, what the call before it found. Assumes nothing.
-use Rattle.line.proofs.Words.{found}
-use mathlib.Core.Path.{refl}
+-- `line::word_of` meets its contract. Assumes nothing.
+use mathlib.Core.Path.{refl, sym, _∙_}
+use Rattle.text.specs.Split.{without}
+use Rattle.line.proofs.Words.{is-erase, is-head}
 use Rattle.line.proofs.word_of.Statement.{statement}
 use Rattle.line.proofs.word_of.Tie as tie
 
-slice-aggregate-if-spelled : tie.Need-slice-aggregate-if-spelled
-slice-aggregate-if-spelled c = refl
-
-if-spelled-requires : tie.Need-if-spelled-requires
-if-spelled-requires c κs = tt
-
-slice-aggregate-if-spelled-2 : tie.Need-slice-aggregate-if-spelled-2
-slice-aggregate-if-spelled-2 c = refl
-
-if-spelled-requires-2 : tie.Need-if-spelled-requires-2
-if-spelled-requires-2 c κs = tt
-
-slice-aggregate-if-spelled-3 : tie.Need-slice-aggregate-if-spelled-3
-slice-aggregate-if-spelled-3 c = refl
-
-if-spelled-requires-3 : tie.Need-if-spelled-requires-3
-if-spelled-requires-3 c κs = tt
-
-slice-aggregate-if-spelled-4 : tie.Need-slice-aggregate-if-spelled-4
-slice-aggregate-if-spelled-4 c = refl
-
-if-spelled-requires-4 : tie.Need-if-spelled-requires-4
-if-spelled-requires-4 c κs = tt
-
-slice-aggregate-if-spelled-5 : tie.Need-slice-aggregate-if-spelled-5
-slice-aggregate-if-spelled-5 c = refl
-
-if-spelled-requires-5 : tie.Need-if-spelled-requires-5
-if-spelled-requires-5 c κs = tt
-
-slice-aggregate-if-spelled-6 : tie.Need-slice-aggregate-if-spelled-6
-slice-aggregate-if-spelled-6 c = refl
-
-if-spelled-requires-6 : tie.Need-if-spelled-requires-6
-if-spelled-requires-6 c κs = tt
-
-slice-aggregate-if-spelled-7 : tie.Need-slice-aggregate-if-spelled-7
-slice-aggregate-if-spelled-7 c = refl
-
-if-spelled-requires-7 : tie.Need-if-spelled-requires-7
-if-spelled-requires-7 c κs = tt
-
-slice-aggregate-if-spelled-8 : tie.Need-slice-aggregate-if-spelled-8
-slice-aggregate-if-spelled-8 c = refl
-
-if-spelled-requires-8 : tie.Need-if-spelled-requires-8
-if-spelled-requires-8 c κs = tt
-
-slice-aggregate-if-spelled-9 : tie.Need-slice-aggregate-if-spelled-9
-slice-aggregate-if-spelled-9 c = refl
-
-if-spelled-requires-9 : tie.Need-if-spelled-requires-9
-if-spelled-requires-9 c κs = tt
-
-slice-aggregate-if-spelled-10 : tie.Need-slice-aggregate-if-spelled-10
-slice-aggregate-if-spelled-10 c = refl
-
-if-spelled-requires-10 : tie.Need-if-spelled-requires-10
-if-spelled-requires-10 c κs = tt
-
-slice-aggregate-if-spelled-11 : tie.Need-slice-aggregate-if-spelled-11
-slice-aggregate-if-spelled-11 c = refl
-
-if-spelled-requires-11 : tie.Need-if-spelled-requires-11
-if-spelled-requires-11 c κs = tt
+any-word-requires : tie.Need-any-word-requires
+any-word-requires c κs = tt
 
 returns : tie.Need-returns
-returns c =
-    found
-    (c .before .before .before .before .before .before .before .before .before .before .before .before .before .before .before .before .before .before .before .before .before .before .before .args .s .now)
-    (c .before .before .before .before .before .before .before .before .before .before .before .before .before .before .before .before .before .before .before .before .if-spelled .ensures)
-    (c .before .before .before .before .before .before .before .before .before .before .before .before .before .before .before .before .before .before .if-spelled2 .ensures)
-    (c .before .before .before .before .before .before .before .before .before .before .before .before .before .before .before .before .if-spelled3 .ensures)
-    (c .before .before .before .before .before .before .before .before .before .before .before .before .before .before .if-spelled4 .ensures)
-    (c .before .before .before .before .before .before .before .before .before .before .before .before .if-spelled5 .ensures)
-    (c .before .before .before .before .before .before .before .before .before .before .if-spelled6 .ensures)
-    (c .before .before .before .before .before .before .before .before .if-spelled7 .ensures)
-    (c .before .before .before .before .before .before .if-spelled8 .ensures)
-    (c .before .before .before .before .if-spelled9 .ensures)
-    (c .before .before .if-spelled10 .ensures)
-    (c .if-spelled11 .ensures)
+returns c = c .any-word .ensures
+
+slice-aggregate-spells : tie.Need-slice-aggregate-spells
+slice-aggregate-spells c = refl
+
+spells-requires : tie.Need-spells-requires
+unfolding without
+spells-requires c κs = (tt, tt)
+
+returns-2 : tie.Need-returns-2
+returns-2 c = is-erase _ (sym (c .before .spells .ensures) ∙ c .if2 .taken)
+
+slice-aggregate-spells-2 : tie.Need-slice-aggregate-spells-2
+slice-aggregate-spells-2 c = refl
+
+spells-requires-2 : tie.Need-spells-requires-2
+unfolding without
+spells-requires-2 c κs = (tt, tt)
+
+returns-3 : tie.Need-returns-3
+returns-3 c = is-head _ (sym (c .before .spells2 .ensures) ∙ c .if3 .taken)
+
+any-word-requires-2 : tie.Need-any-word-requires-2
+any-word-requires-2 c κs = tt
+
+returns-4 : tie.Need-returns-4
+returns-4 c = c .any-word2 .ensures
 
 pub word-of-spec : {M : Type 1} → statement M
-word-of-spec =
-    tie.close
-    (tie.spec
-    slice-aggregate-if-spelled
-    if-spelled-requires
-    slice-aggregate-if-spelled-2
-    if-spelled-requires-2
-    slice-aggregate-if-spelled-3
-    if-spelled-requires-3
-    slice-aggregate-if-spelled-4
-    if-spelled-requires-4
-    slice-aggregate-if-spelled-5
-    if-spelled-requires-5
-    slice-aggregate-if-spelled-6
-    if-spelled-requires-6
-    slice-aggregate-if-spelled-7
-    if-spelled-requires-7
-    slice-aggregate-if-spelled-8
-    if-spelled-requires-8
-    slice-aggregate-if-spelled-9
-    if-spelled-requires-9
-    slice-aggregate-if-spelled-10
-    if-spelled-requires-10
-    slice-aggregate-if-spelled-11
-    if-spelled-requires-11
-    returns)
+word-of-spec = tie.close (tie.spec any-word-requires returns slice-aggregate-spells spells-requires returns-2 slice-aggregate-spells-2 spells-requires-2 returns-3 any-word-requires-2 returns-4)

@@ -18,11 +18,14 @@ abbrev μ-loop : tie.MeasureT-loop
 loop-holds : tie.Need-loop-holds Inv-loop μ-loop
 loop-holds c = (search needs, refl, fill-none _ _)
 
-cell-requires : tie.Need-cell-requires Inv-loop μ-loop
-cell-requires c κs = search needs
-
 mul-to : tie.Need-mul-to Inv-loop μ-loop
 mul-to c = search needs
+
+shared-slice-read-to : tie.Need-shared-slice-read-to Inv-loop μ-loop
+shared-slice-read-to c = search needs
+
+mul-to-2 : tie.Need-mul-to-2 Inv-loop μ-loop
+mul-to-2 c = search needs
 
 slice-write-to : tie.Need-slice-write-to Inv-loop μ-loop
 slice-write-to c = search needs
@@ -36,14 +39,14 @@ loop-less c = search needs
 loop-again : tie.Need-loop-again Inv-loop μ-loop
 loop-again c =
     let l = c .before .before .loop in
-    let a = c .before .before .before .before .before .args in
-    (search needs, length-set (l .to) (l .i) _ ∙ l .inv .1, fill-more (a .from .now) (a .to .now) (l .to) (l .i) (c .cell .ensures) (l .inv .2))
+    let a = c .before .before .before .args in
+    (search needs, length-set (l .to) (l .i) _ ∙ l .inv .1, fill-more (a .from .now) (a .to .now) (l .to) (l .i) refl (l .inv .2))
 
 same-length : tie.Need-same-length Inv-loop μ-loop
 same-length c = search needs
 
 returns : tie.Need-returns Inv-loop μ-loop
-returns c = let e : c .before .loop .i ≡ c .before .before .before .before .args .n = omega arith in rw (← e) (c .before .loop .inv .2)
+returns c = let e : c .before .loop .i ≡ c .before .before .args .n = omega arith in rw (← e) (c .before .loop .inv .2)
 
 pub copy-spec : {M : Type 1} → statement M
 copy-spec =
@@ -52,8 +55,9 @@ copy-spec =
     Inv-loop
     μ-loop
     loop-holds
-    cell-requires
     mul-to
+    shared-slice-read-to
+    mul-to-2
     slice-write-to
     add-i
     loop-less

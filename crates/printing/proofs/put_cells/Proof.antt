@@ -29,7 +29,7 @@ shared-slice-read-put-fact : tie.Need-shared-slice-read-put-fact Inv-loop μ-loo
 shared-slice-read-put-fact c = search needs
 
 put-fact-requires : tie.Need-put-fact-requires Inv-loop μ-loop
-put-fact-requires c κs = search needs
+put-fact-requires c κs = (search needs, let x = c .before .before .before .loop .inv .1 in omega (arith, x .place, put-length x))
 
 add-i : tie.Need-add-i Inv-loop μ-loop
 add-i c = search needs

@@ -1,14 +1,12 @@
 -- `printing::put_fact` meets its contract. Assumes nothing.
 use Rattle.printing.proofs.Bytes.{fact-put, absent-put}
 use borrow.Author.Needs.{needs}
+use native.Mathlib.Omega.{arith}
 use Rattle.printing.proofs.put_fact.Statement.{statement}
 use Rattle.printing.proofs.put_fact.Tie as tie
 
-place-requires : tie.Need-place-requires
-place-requires c κs = search needs
-
 returns : tie.Need-returns
-returns c = let a = c .before .before .before .args in absent-put _ _ (a .kind) (a .size .symbols) (a .size .states) (a .i) (a .rank) (c .before .if1 .taken) (c .place .ensures)
+returns c = let a = c .before .before .args in absent-put _ _ (a .kind) (a .size .symbols) (a .size .states) (a .i) (a .rank) (c .if1 .taken) (omega arith)
 
 enum-told : tie.Need-enum-told
 enum-told c = search needs
@@ -38,7 +36,6 @@ pub put-fact-spec : {M : Type 1} → statement M
 put-fact-spec =
     tie.close
     (tie.spec
-    place-requires
     returns
     enum-told
     put-head-requires

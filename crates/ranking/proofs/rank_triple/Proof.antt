@@ -1,48 +1,47 @@
 -- `ranking::rank_triple` meets its contract. Assumes nothing.
 use mathlib.Core.Path.{sym, _∙_}
-use Rattle.ranking.proofs.Faults.{fault-found, fault-rank, not-ranked, is-ranked}
+use Rattle.model.proofs.Counted.{passed, failed}
+use Rattle.ranking.proofs.Faults.{fault-early, fault-twice, fault-outside, fault-large, fault-none, outside-absent, not-ranked, is-ranked}
 use native.Mathlib.Omega.{arith}
 use borrow.Author.Needs.{needs}
 use Rattle.ranking.proofs.rank_triple.Statement.{statement}
 use Rattle.ranking.proofs.rank_triple.Tie as tie
 
-triple-at-requires : tie.Need-triple-at-requires
-triple-at-requires c κs = search needs
+returns : tie.Need-returns
+returns c = not-ranked (fault-early _ _ _ _ (c .if1 .taken)) (λ e. omega arith)
 
 triple-inside-requires : tie.Need-triple-inside-requires
 triple-inside-requires c κs = search needs
 
-fault-requires : tie.Need-fault-requires
-fault-requires c κs = search needs
+returns-2 : tie.Need-returns-2
+returns-2 c = let out = failed (c .before .triple-inside .ensures) (c .if2 .taken) in not-ranked (fault-outside _ _ _ _ (c .before .before .if1 .left) (outside-absent _ _ out) out) (λ e. omega arith)
+
+triple-at-requires : tie.Need-triple-at-requires
+triple-at-requires c κs = search needs
 
 same-length : tie.Need-same-length
 same-length c = search needs
 
-returns : tie.Need-returns
-returns c = let a = c .before .before .before .before .before .before .args in not-ranked (fault-found (a .begun) (a .rank) (c .before .fault .ensures) (c .before .before .before .triple-at .ensures) (c .before .before .triple-inside .ensures)) (c .if1 .taken)
-
-cast-put-triple : tie.Need-cast-put-triple
-cast-put-triple c = omega (arith, fault-rank _ _ _ (c .before .before .before .before .before .before .before .args .rank) (sym (c .before .before .fault .ensures) ∙ c .before .if1 .left))
-
-put-triple-requires : tie.Need-put-triple-requires
-put-triple-requires c κs = search needs
+returns-3 : tie.Need-returns-3
+returns-3 c = not-ranked (fault-twice _ _ _ _ (c .before .before .before .before .before .if1 .left) (λ e. c .if3 .taken (c .before .triple-at .ensures ∙ e))) (λ e. omega arith)
 
 same-length-2 : tie.Need-same-length-2
 same-length-2 c = search needs
 
-returns-2 : tie.Need-returns-2
-returns-2 c = let a = c .before .before .before .before .before .before .before .before .before .before .args in is-ranked (fault-found (a .begun) (a .rank) (c .before .before .before .before .before .fault .ensures) (c .before .before .before .before .before .before .before .triple-at .ensures) (c .before .before .before .before .before .before .triple-inside .ensures)) (c .before .before .before .before .if1 .left) (c .before .before .put-triple .ensures)
+returns-4 : tie.Need-returns-4
+returns-4 c = not-ranked (fault-large _ _ _ _ (c .before .before .before .before .before .before .if1 .left) (sym (c .before .before .triple-at .ensures) ∙ c .before .if3 .left) (passed (c .before .before .before .before .before .triple-inside .ensures) (c .before .before .before .before .if2 .left)) (c .if4 .taken)) (λ e. omega arith)
+
+cast-put-triple : tie.Need-cast-put-triple
+cast-put-triple c = search needs
+
+put-triple-requires : tie.Need-put-triple-requires
+put-triple-requires c κs = search needs
+
+same-length-3 : tie.Need-same-length-3
+same-length-3 c = search needs
+
+returns-5 : tie.Need-returns-5
+returns-5 c = is-ranked (fault-none _ _ _ _ (c .before .before .before .before .before .before .before .before .before .before .if1 .left) (sym (c .before .before .before .before .before .before .triple-at .ensures) ∙ c .before .before .before .before .before .if3 .left) (passed (c .before .before .before .before .before .before .before .before .before .triple-inside .ensures) (c .before .before .before .before .before .before .before .before .if2 .left)) (c .before .before .before .before .if4 .left)) (c .before .before .put-triple .ensures)
 
 pub rank-triple-spec : {M : Type 1} → statement M
-rank-triple-spec =
-    tie.close
-    (tie.spec
-    triple-at-requires
-    triple-inside-requires
-    fault-requires
-    same-length
-    returns
-    cast-put-triple
-    put-triple-requires
-    same-length-2
-    returns-2)
+rank-triple-spec = tie.close (tie.spec returns triple-inside-requires returns-2 triple-at-requires same-length returns-3 same-length-2 returns-4 cast-put-triple put-triple-requires same-length-3 returns-5)

@@ -1,6 +1,11 @@
 -- `recheck::check_table` meets its contract: at each of its ends the answer follows from the tests before. Assumes nothing.
 use borrow.Author.Needs.{needs}
 use denote.Ref.{now}
+use mathlib.Core.Path.{sym, subst}
+use lib.Dec.{T}
+use borrow.Author.Tests.{not-false}
+use Rattle.model.proofs.Bounds.{is-valid}
+use Rattle.model.proofs.Counted.{passed}
 use Rattle.recheck.proofs.Reasons.{is-invalid, is-short, has-no-start, has-violating, is-open, is-accepted}
 use Rattle.recheck.proofs.check_table.Statement.{statement}
 use Rattle.recheck.proofs.check_table.Tie as tie
@@ -44,7 +49,7 @@ returns-4 c =
     has-violating (a .t1) (now (a .heads)) (now (a .triples)) (c .before .before .before .before .before .before .before .before .before .is-valid .ensures) (c .before .before .before .before .before .before .before .before .if1 .left) (c .before .before .before .before .before .before .before .long-enough .ensures) (c .before .before .before .before .before .before .if2 .left) (c .before .before .before .before .before .has-head .ensures) (c .before .before .before .before .if3 .left) (c .before .is-clean .ensures) (c .if4 .taken)
 
 open-step-requires : tie.Need-open-step-requires
-open-step-requires c κs = search needs
+open-step-requires c κs = (is-valid _ (c .before .before .before .before .before .before .before .before .before .is-valid .ensures) (not-false _ (c .before .before .before .before .before .before .before .before .if1 .left)), subst T (sym (passed (c .before .before .before .before .before .before .before .long-enough .ensures) (c .before .before .before .before .before .before .if2 .left))) tt)
 
 enum-known-found : tie.Need-enum-known-found
 enum-known-found c = search needs
@@ -54,13 +59,13 @@ enum-told c = search needs
 
 returns-5 : tie.Need-returns-5
 returns-5 c =
-    let a = c .before .before .before .before .before .before .before .before .before .before .before .before .before .before .before .before .before .before .before .before .args in
-    is-open (a .t1) (now (a .heads)) (now (a .triples)) (c .before .before .before .before .before .before .before .before .before .before .before .before .before .before .before .before .before .is-valid .ensures) (c .before .before .before .before .before .before .before .before .before .before .before .before .before .before .before .before .if1 .left) (c .before .before .before .before .before .before .before .before .before .before .before .before .before .before .before .long-enough .ensures) (c .before .before .before .before .before .before .before .before .before .before .before .before .before .before .if2 .left) (c .before .before .before .before .before .before .before .before .before .before .before .before .before .has-head .ensures) (c .before .before .before .before .before .before .before .before .before .before .before .before .if3 .left) (c .before .before .before .before .before .before .before .before .before .is-clean .ensures) (c .before .before .before .before .before .before .before .before .if4 .left) (c .before .before .before .open-step .ensures) (c .before .found .given .1)
+    let a = c .before .before .before .before .before .before .before .before .before .before .before .before .before .before .before .before .args in
+    is-open (a .t1) (now (a .heads)) (now (a .triples)) (c .before .before .before .before .before .before .before .before .before .before .before .before .before .is-valid .ensures) (c .before .before .before .before .before .before .before .before .before .before .before .before .if1 .left) (c .before .before .before .before .before .before .before .before .before .before .before .long-enough .ensures) (c .before .before .before .before .before .before .before .before .before .before .if2 .left) (c .before .before .before .before .before .before .before .before .before .has-head .ensures) (c .before .before .before .before .before .before .before .before .if3 .left) (c .before .before .before .before .before .is-clean .ensures) (c .before .before .before .before .if4 .left) (c .before .before .before .open-step .ensures) (c .before .found .given .1)
 
 returns-6 : tie.Need-returns-6
 returns-6 c =
-    let a = c .before .before .before .before .before .before .before .before .before .before .before .before .before .before .before .before .before .before .before .args in
-    is-accepted (a .t1) (now (a .heads)) (now (a .triples)) (c .before .before .before .before .before .before .before .before .before .before .before .before .before .before .before .before .is-valid .ensures) (c .before .before .before .before .before .before .before .before .before .before .before .before .before .before .before .if1 .left) (c .before .before .before .before .before .before .before .before .before .before .before .before .before .before .long-enough .ensures) (c .before .before .before .before .before .before .before .before .before .before .before .before .before .if2 .left) (c .before .before .before .before .before .before .before .before .before .before .before .before .has-head .ensures) (c .before .before .before .before .before .before .before .before .before .before .before .if3 .left) (c .before .before .before .before .before .before .before .before .is-clean .ensures) (c .before .before .before .before .before .before .before .if4 .left) (c .before .before .open-step .ensures) (c .enum-told .given .1)
+    let a = c .before .before .before .before .before .before .before .before .before .before .before .before .before .before .before .args in
+    is-accepted (a .t1) (now (a .heads)) (now (a .triples)) (c .before .before .before .before .before .before .before .before .before .before .before .before .is-valid .ensures) (c .before .before .before .before .before .before .before .before .before .before .before .if1 .left) (c .before .before .before .before .before .before .before .before .before .before .long-enough .ensures) (c .before .before .before .before .before .before .before .before .before .if2 .left) (c .before .before .before .before .before .before .before .before .has-head .ensures) (c .before .before .before .before .before .before .before .if3 .left) (c .before .before .before .before .is-clean .ensures) (c .before .before .before .if4 .left) (c .before .before .open-step .ensures) (c .enum-told .given .1)
 
 pub check-table-spec : {M : Type 1} → statement M
 check-table-spec =

@@ -1,10 +1,5 @@
 -- `splitter::listing_of` meets its contract. Assumes nothing.
-use native.Mathlib.Omega.{arith}
-use mathlib.Core.Path.{ap, _∙_}
-use mathlib.Core.Bool.{true}
-use lib.ListN.{drop}
-use Rattle.text.proofs.Lists.{tail-part}
-use Rattle.splitter.proofs.Place.{within}
+use Rattle.splitter.proofs.Place.{place-within, listing-rest}
 use borrow.Author.Needs.{needs}
 use Rattle.splitter.proofs.listing_of.Statement.{statement}
 use Rattle.splitter.proofs.listing_of.Tie as tie
@@ -13,16 +8,16 @@ listing-at-requires : tie.Need-listing-at-requires
 listing-at-requires c κs = search needs
 
 sub-result : tie.Need-sub-result
-sub-result c = omega (arith, within true (c .before .before .args .text .now), c .listing-at .ensures)
+sub-result c = place-within (c .before .before .args .text .now) (c .listing-at .ensures)
 
 part-result-start : tie.Need-part-result-start
-part-result-start c = omega (arith, within true (c .before .before .args .text .now), c .listing-at .ensures)
+part-result-start c = place-within (c .before .before .args .text .now) (c .listing-at .ensures)
 
 part-result-end : tie.Need-part-result-end
 part-result-end c = search needs
 
 returns : tie.Need-returns
-returns c = let t = c .before .before .before .args .text .now in tail-part t _ ∙ ap (λ k. drop k t) (c .before .listing-at .ensures)
+returns c = listing-rest (c .before .before .before .args .text .now) (c .before .listing-at .ensures)
 
 pub listing-of-spec : {M : Type 1} → statement M
 listing-of-spec =

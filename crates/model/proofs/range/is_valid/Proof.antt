@@ -1,11 +1,19 @@
 -- `model::range::is_valid` meets its contract. Assumes nothing.
-use mathlib.Core.Path.{sym, _∙_}
+use mathlib.Core.Bool.{Bool, false, not}
+use mathlib.Core.Path.{_≡_, sym, _∙_}
+use Prim.Native.Nat.{_≤_}
 use borrow.Author.Tests.{lt-ltb, le-ltb}
 use borrow.Author.Needs.{needs}
-use Rattle.model.specs.Valid.{valid}
+use Rattle.model.specs.declared.Model.{Model}
+use Rattle.model.specs.Valid.{sizesIn, valid}
 use Rattle.model.proofs.Counted.{passed, failed}
+use Rattle.model.proofs.Valid.{few-rows}
 use Rattle.model.proofs.range.is_valid.Statement.{statement}
 use Rattle.model.proofs.range.is_valid.Tie as tie
+
+-- the rows that the loops read are there
+few : (m : Model) {b : Bool} → b ≡ sizesIn (m .symbols) (m .states) (m .events) (m .rules) (m .moves) → not b ≡ false → (m .rules ≤ 256) × (m .moves ≤ 128)
+few m e n = few-rows (m .symbols) (m .states) (m .events) (m .rules) (m .moves) (passed e n)
 
 cast-symbols : tie.Need-cast-symbols
 cast-symbols c = search needs
@@ -32,10 +40,10 @@ unfolding valid
 returns-3 c = rw (passed (c .before .before .before .sizes-in .ensures) (c .before .before .if1 .left), lt-ltb _ _ (c .before .if2 .left), le-ltb _ _ (c .if3 .taken))
 
 rules-in-requires : tie.Need-rules-in-requires
-rules-in-requires c κs = search needs
+rules-in-requires c κs = few (c .before .before .before .before .before .before .args .t1) (c .before .before .before .before .before .sizes-in .ensures) (c .before .before .before .before .if1 .left) .0
 
 moves-in-requires : tie.Need-moves-in-requires
-moves-in-requires c κs = search needs
+moves-in-requires c κs = few (c .before .before .before .before .before .before .before .before .before .before .args .t1) (c .before .before .before .before .before .before .before .before .before .sizes-in .ensures) (c .before .before .before .before .before .before .before .before .if1 .left) .1
 
 returns-4 : tie.Need-returns-4
 unfolding valid

@@ -1,0 +1,20 @@
+-- `closed::composed` meets its contract. Assumes nothing.
+use borrow.Author.Needs.{needs}
+use Rattle.closed.proofs.Entries.{none-left, none-right}
+use Rattle.closed.proofs.composed.Statement.{statement}
+use Rattle.closed.proofs.composed.Tie as tie
+
+returns : tie.Need-returns
+returns c = none-left _ _ (c .if1 .taken)
+
+returns-2 : tie.Need-returns-2
+returns-2 c = none-right _ _ (c .if2 .taken)
+
+product-requires : tie.Need-product-requires
+product-requires c κs = search needs
+
+returns-3 : tie.Need-returns-3
+returns-3 c = search needs
+
+pub composed-spec : {M : Type 1} → statement M
+composed-spec = tie.close (tie.spec returns returns-2 product-requires returns-3)

@@ -1,0 +1,203 @@
+-- The rules put into the sets of what they need, the exits, the final states, and the symbols of the classes. Assumes nothing.
+use mathlib.Core.Bool.{Bool, true, false, cond, not, _&&_, _||_}
+use mathlib.Core.List.{List}
+use mathlib.Core.Logic.{_⊎_, inl, inr, ⊎-elim}
+use mathlib.Core.Path.{_≡_, refl, sym, ap, ap₂, _∙_, subst, subst⁻¹}
+use Prim.Native.Nat.{ℕ, zero, suc, _+_, _*_, _/_, _%_, _^_, _<_, _≤_}
+use native.Mathlib.Numerals.{add-one}
+use native.Mathlib.Omega.{arith}
+use native.Mathlib.Decide.{ℕ-discrete, decLt}
+use lib.Bits.{bitOr}
+use lib.Dec.{T, eqb, ltb, eqb→eq, eqb-refl}
+use lib.ListN.{length, length-set, getD, set, replicate}
+use lib.Seq.{getD-set-same, getD-set-other}
+use borrow.Author.Tests.{eq-eqb, ne-eqb, lt-ltb, le-ltb}
+use Rattle.product.specs.Product.{Rule, exit, direct, call}
+use Rattle.product.proofs.Lists.{and-left, and-right, both, or-left, or-right, or-cases, same-truth}
+use Rattle.bits.specs.Bit.{bit}
+use Rattle.bits.proofs.Bit.{bit-or, bit-zero}
+use Rattle.bits.proofs.Set.{bit-pow, one-shifted}
+use Rattle.decide.specs.Sets.{member, chosen, With, Put}
+use Rattle.decide.specs.Gather.{kindAt, classAt, overAt, underAt}
+use Rattle.decide.specs.Frame.{ruleBy}
+use Rattle.decide.specs.Turn.{UsesOf}
+use Rattle.decide.specs.Build.{SameSymbols, rowRule, UsesPut, UsesAll, ExitPut, Exits}
+use Rattle.decide.proofs.Members.{or-false}
+use Rattle.decide.proofs.Emptied.{zeros-at}
+use Rattle.decide.proofs.Choosing.{off, no-member}
+
+-- one set more has r
+pub record Grew (r : ℕ) (us us′ : List ℕ) : Type 0 where
+  pub long : length us′ ≡ 384
+  pub kept : (s x : ℕ) → x < 256 → T (member us s x) → T (member us′ s x)
+  pub only : (s x : ℕ) → x < 256 → T (member us′ s x) → T (member us s x) ⊎ (r ≡ x)
+
+grew-none : (r : ℕ) (us : List ℕ) → length us ≡ 384 → Grew r us us
+grew-none r us l = record { long = l; kept = λ s x h t. t; only = λ s x h t. inl t }
+
+grew-then : {r : ℕ} {a b c : List ℕ} → Grew r a b → Grew r b c → Grew r a c
+grew-then g h = record {
+  long = h .long;
+  kept = λ s x l t. h .kept s x l (g .kept s x l t);
+  only = λ s x l t. ⊎-elim (g .only s x l) inr (h .only s x l t);
+}
+
+module _ {us us′ : List ℕ} {s r : ℕ} (p : Put us s r us′) where
+  put-grew : Grew r us us′
+  put-grew = record {
+    long = p .long;
+    kept = λ s′ x h t. subst⁻¹ T (p .is s′ x h) (or-left (member us s′ x) (eqb s s′ && eqb r x) t);
+    only = λ s′ x h t. ⊎-elim inl (λ u. inr (eqb→eq r x (and-right (eqb s s′) (eqb r x) u))) (or-cases (member us s′ x) (eqb s s′ && eqb r x) (subst T (p .is s′ x h) t));
+  }
+
+  put-there : r < 256 → T (member us′ s r)
+  put-there h = subst⁻¹ T (p .is s r h) (or-right (member us s r) (eqb s s && eqb r r) (both (eqb s s) (eqb r r) (eqb-refl s) (eqb-refl r)))
+
+put-at : {us us′ : List ℕ} {s t r : ℕ} → Put us s r us′ → s ≡ t → r < 256 → T (member us′ t r)
+put-at {us} {us′} {s} {t} {r} p e h = subst (λ s. T (member us′ s r)) e (put-there p h)
+
+rule-exit : (rs : List ℕ) (r : ℕ) → kindAt rs r ≡ 0 → exit (classAt rs r % 32) ≡ rowRule rs r
+rule-exit rs r k = rw k
+
+rule-direct : (rs : List ℕ) (r : ℕ) → kindAt rs r ≡ 1 → direct (classAt rs r % 32) (overAt rs r) ≡ rowRule rs r
+rule-direct rs r k = rw k
+
+rule-call : (rs : List ℕ) (r : ℕ) → (kindAt rs r ≡ 0 → ⊥) → (kindAt rs r ≡ 1 → ⊥) → call (classAt rs r % 32) (overAt rs r) (underAt rs r) ≡ rowRule rs r
+rule-call rs r h k = go (kindAt rs r) h k
+  where
+    go : (n : ℕ) → (n ≡ 0 → ⊥) → (n ≡ 1 → ⊥) → call (classAt rs r % 32) (overAt rs r) (underAt rs r) ≡ ruleBy n (classAt rs r % 32) (overAt rs r) (underAt rs r)
+    go zero h k = absurd (h refl)
+    go (suc zero) h k = absurd (k refl)
+    go (suc (suc n)) h k = refl
+
+module _ (rs : List ℕ) (r : ℕ) (l : r < 256) {us : List ℕ} (long : length us ≡ 384) where
+  from-grew : {us′ : List ℕ} → Grew r us us′ → UsesOf us′ r (rowRule rs r) → UsesPut rs r us us′
+  from-grew g u = record { long = g .long; there = u; kept = g .kept; only = g .only }
+
+  pub uses-exit : kindAt rs r ≡ 0 → UsesPut rs r us us
+  uses-exit k = from-grew (grew-none r us long) (subst (UsesOf us r) (rule-exit rs r k) tt)
+
+  module _ {g g1 : ℕ} {a b : List ℕ} (g-is : g ≡ classAt rs r % 32) (p : Put us (64 + g) r a) (g1-is : g1 ≡ overAt rs r) (q : Put a g1 r b) where
+    pub uses-direct : kindAt rs r ≡ 1 → UsesPut rs r us b
+    uses-direct k =
+        from-grew (grew-then (put-grew p) (put-grew q))
+        (subst (UsesOf b r) (rule-direct rs r k) (put-at q g1-is l, put-grew q .kept (64 + classAt rs r % 32) r l (put-at p (ap (λ n. 64 + n) g-is) l)))
+
+    pub uses-call : (kindAt rs r ≡ 0 → ⊥) → (kindAt rs r ≡ 1 → ⊥) → {g2 : ℕ} {c d : List ℕ} → g2 ≡ underAt rs r → Put b g2 r c → Put c (32 + g1) r d → UsesPut rs r us d
+    uses-call h k {g2} {c} {d} g2-is u v =
+        from-grew (grew-then (grew-then (put-grew p) (put-grew q)) (grew-then (put-grew u) (put-grew v)))
+        (subst (UsesOf d r) (rule-call rs r h k) (
+          put-grew v .kept (overAt rs r) r l (put-grew u .kept (overAt rs r) r l (put-at q g1-is l)),
+          put-grew v .kept (underAt rs r) r l (put-at u g2-is l),
+          put-at v (ap (λ n. 32 + n) g1-is) l,
+          put-grew v .kept (64 + classAt rs r % 32) r l (put-grew u .kept (64 + classAt rs r % 32) r l (put-grew q .kept (64 + classAt rs r % 32) r l (put-at p (ap (λ n. 64 + n) g-is) l))),
+        ))
+
+-- the first rules
+member-none : (s r : ℕ) → member (replicate {A = ℕ} 384 0) s r ≡ false
+unfolding member
+member-none s r = ap (λ n. bit n (r % 64)) (zeros-at 384 (s * 4 + r / 64)) ∙ bit-zero (r % 64)
+
+module _ (rs : List ℕ) where
+  pub uses-none : UsesAll rs 0 (replicate {A = ℕ} 384 0)
+  uses-none = record { long = refl; there = λ r h. absurd (omega arith); only = λ s r h t. absurd (subst T (member-none s r) t) }
+
+  kept-by : (x : ℕ) {r : ℕ} {us us′ : List ℕ} → x < 256 → UsesPut rs r us us′ → (ρ : Rule) → UsesOf us x ρ → UsesOf us′ x ρ
+  kept-by x h p (exit g) u = tt
+  kept-by x h p (direct g g1) (a, b) = (p .kept g1 x h a, p .kept (64 + g) x h b)
+  kept-by x h p (call g g1 g2) (a, b, c, d) = (p .kept g1 x h a, p .kept g2 x h b, p .kept (32 + g1) x h c, p .kept (64 + g) x h d)
+
+  pub uses-more : (n : ℕ) {us us′ : List ℕ} → n < 256 → UsesAll rs n us → UsesPut rs n us us′ → UsesAll rs (n + 1) us′
+  uses-more n {us} {us′} l a p = record {
+    long = p .long;
+    there = λ r h. at r h (ℕ-discrete r n);
+    only = λ s r h t. ⊎-elim (λ u. let i = a .only s r h u in omega arith) (λ e. omega arith) (p .only s r h t);
+  }
+    where
+      at : (r : ℕ) → r < n + 1 → Dec (r ≡ n) → UsesOf us′ r (rowRule rs r)
+      at r h (yes e) = subst⁻¹ (λ r. UsesOf us′ r (rowRule rs r)) e (p .there)
+      at r h (no e) = kept-by r (omega arith) p (rowRule rs r) (a .there r (omega arith))
+
+  pub uses-all : (n k : ℕ) {us : List ℕ} → n ≡ k → UsesAll rs n us → UsesAll rs k us
+  uses-all n k {us} e = subst (λ n. UsesAll rs n us) e
+
+  -- the exits
+  pub exit-other : (r : ℕ) {w : List ℕ} → length w ≡ 4 → (kindAt rs r ≡ 0 → ⊥) → ExitPut rs r w w
+  exit-other r {w} l h = record { long = l; is = λ x. or-false (chosen w x) ∙ ap (λ b. chosen w x || b) (sym (ap (λ b. eqb r x && b) (ne-eqb (kindAt rs r) 0 h) ∙ and-off (eqb r x))) }
+    where
+      and-off : (a : Bool) → a && false ≡ false
+      and-off true = refl
+      and-off false = refl
+
+  pub exit-put : (r : ℕ) {w w′ : List ℕ} → kindAt rs r ≡ 0 → With w r w′ → ExitPut rs r w w′
+  exit-put r {w} {w′} k m = record { long = m .long; is = λ x. m .is x ∙ ap (λ b. chosen w x || b) (and-on (eqb r x) ∙ ap (λ b. eqb r x && b) (sym (eq-eqb (kindAt rs r) 0 k))) }
+    where
+      and-on : (a : Bool) → a ≡ a && true
+      and-on true = refl
+      and-on false = refl
+
+  pub exits-none : Exits rs 0 (replicate {A = ℕ} 4 0)
+  exits-none = record { long = refl; is = λ x. off (chosen (replicate {A = ℕ} 4 0) x) (no-member x) ∙ sym (ap (λ b. b && eqb (kindAt rs x) 0) (le-ltb x 0 (omega arith))) }
+
+  pub exits-more : (n : ℕ) {w w′ : List ℕ} → Exits rs n w → ExitPut rs n w w′ → Exits rs (n + 1) w′
+  exits-more n {w} {w′} a p = record { long = p .long; is = λ x. p .is x ∙ ap (λ b. b || (eqb n x && eqb (kindAt rs n) 0)) (a .is x) ∙ at x (ℕ-discrete n x) }
+    where
+      at : (x : ℕ) → Dec (n ≡ x) → (ltb x n && eqb (kindAt rs x) 0) || (eqb n x && eqb (kindAt rs n) 0) ≡ ltb x (n + 1) && eqb (kindAt rs x) 0
+      at x (yes e) =
+          subst (λ x. (ltb x n && eqb (kindAt rs x) 0) || (eqb n x && eqb (kindAt rs n) 0) ≡ ltb x (n + 1) && eqb (kindAt rs x) 0) e
+          (rw (le-ltb n n (omega arith), eq-eqb n n refl, lt-ltb n (n + 1) (omega arith)))
+      at x (no e) = go (decLt x n)
+        where
+          go : Dec (x < n) → (ltb x n && eqb (kindAt rs x) 0) || (eqb n x && eqb (kindAt rs n) 0) ≡ ltb x (n + 1) && eqb (kindAt rs x) 0
+          go (yes h) = rw (ne-eqb n x e, lt-ltb x n h, lt-ltb x (n + 1) (omega arith)) (sym (or-false (eqb (kindAt rs x) 0)))
+          go (no h) = rw (ne-eqb n x e, le-ltb x n (omega arith), le-ltb x (n + 1) (omega arith))
+
+  pub exits-all : (n k : ℕ) {w : List ℕ} → n ≡ k → Exits rs n w → Exits rs k w
+  exits-all n k {w} e = subst (λ n. Exits rs n w) e
+
+-- the final states
+module _ (fs : List Bool) where
+  abbrev pub FinalsTo : (n r : ℕ) → Type 0
+  FinalsTo n r = (x : ℕ) → bit r x ≡ ltb x n && getD fs x false
+
+  pub finals-none : FinalsTo 0 0
+  finals-none x = bit-zero x ∙ sym (ap (λ b. b && getD fs x false) (le-ltb x 0 (omega arith)))
+
+  pub finals-more : (n r m : ℕ) → FinalsTo n r → m ≡ cond (getD fs n false) (2 ^ n) 0 → FinalsTo (n + 1) (bitOr r m)
+  finals-more n r m a e x = bit-or r m x ∙ ap₂ _||_ (a x) (ap (λ m. bit m x) e ∙ one (getD fs n false) refl) ∙ at (ℕ-discrete n x)
+    where
+      one : (b : Bool) → getD fs n false ≡ b → bit (cond b (2 ^ n) 0) x ≡ eqb n x && b
+      one true y = bit-pow n x ∙ and-on (eqb n x)
+        where
+          and-on : (a : Bool) → a ≡ a && true
+          and-on true = refl
+          and-on false = refl
+      one false y = bit-zero x ∙ sym (and-off (eqb n x))
+        where
+          and-off : (a : Bool) → a && false ≡ false
+          and-off true = refl
+          and-off false = refl
+
+      at : Dec (n ≡ x) → (ltb x n && getD fs x false) || (eqb n x && getD fs n false) ≡ ltb x (n + 1) && getD fs x false
+      at (yes e) =
+          subst (λ x. (ltb x n && getD fs x false) || (eqb n x && getD fs n false) ≡ ltb x (n + 1) && getD fs x false) e
+          (rw (le-ltb n n (omega arith), eq-eqb n n refl, lt-ltb n (n + 1) (omega arith)))
+      at (no e) = go (decLt x n)
+        where
+          go : Dec (x < n) → (ltb x n && getD fs x false) || (eqb n x && getD fs n false) ≡ ltb x (n + 1) && getD fs x false
+          go (yes h) = rw (ne-eqb n x e, lt-ltb x n h, lt-ltb x (n + 1) (omega arith)) (sym (or-false (getD fs x false)))
+          go (no h) = rw (ne-eqb n x e, le-ltb x n (omega arith), le-ltb x (n + 1) (omega arith))
+
+  pub finals-all : (n k r : ℕ) → n ≡ k → FinalsTo n r → FinalsTo k r
+  finals-all n k r e = subst (λ n. FinalsTo n r) e
+
+-- the symbols
+pub symbols-more : (n : ℕ) (sy : List ℕ) → n < length sy → SameSymbols n sy → SameSymbols (n + 1) (set sy n n)
+symbols-more n sy l a c h = go (ℕ-discrete c n)
+  where
+    go : Dec (c ≡ n) → getD (set sy n n) c 0 ≡ c
+    go (yes e) = ap (λ c. getD (set sy n n) c 0) e ∙ getD-set-same sy n n 0 l ∙ sym e
+    go (no e) = getD-set-other sy n c n 0 e ∙ a c (omega arith)
+
+pub final-bit : (fs : List Bool) (q : ℕ) → q < 8 → getD fs q false ≡ true → (1 * 2 ^ q) % 2 ^ 64 ≡ cond (getD fs q false) (2 ^ q) 0
+final-bit fs q l e = rw e (one-shifted 64 q (omega arith))

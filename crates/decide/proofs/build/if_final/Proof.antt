@@ -1,0 +1,27 @@
+use mathlib.Core.Path.{_≡_, refl}
+use Rattle.decide.proofs.Building.{final-bit}
+use native.Mathlib.Omega.{arith}
+use borrow.Author.Needs.{needs}
+use Rattle.decide.proofs.build.if_final.Statement.{statement}
+use Rattle.decide.proofs.build.if_final.Tie as tie
+use Rattle.decide.proofs.build.if_final.Reads as reads
+use Rattle.decide.proofs.build.if_final.Lts as lts
+
+-- src/build.rt:92:8
+element-copy-out-if1 : tie.Need-element-copy-out-if1
+element-copy-out-if1 c = search needs
+
+-- src/build.rt:93:16
+shl-result : tie.Need-shl-result
+shl-result c = search needs
+
+-- src/build.rt:93:9
+returns : tie.Need-returns
+returns c = final-bit (c .before .before .args .finals .now) _ (c .before .before .pre) (c .if1 .taken)
+
+-- src/build.rt:88:1
+returns-2 : tie.Need-returns-2
+returns-2 c = rw (c .if1 .left)
+
+pub if-final-spec : {M : Type 1} → statement M
+if-final-spec = tie.close (tie.spec element-copy-out-if1 shl-result returns returns-2)

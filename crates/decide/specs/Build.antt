@@ -1,0 +1,42 @@
+-- What the rounds are run on: the rules by what they need, the exits, and the symbols of the classes. What serves the decision's own functions. Assumes nothing.
+use mathlib.Core.Bool.{Bool, _&&_, _||_}
+use mathlib.Core.List.{List}
+use mathlib.Core.Logic.{_⊎_}
+use mathlib.Core.Path.{_≡_}
+use Prim.Native.Nat.{ℕ, _%_, _<_}
+use lib.Dec.{T, eqb, ltb}
+use lib.ListN.{length, getD}
+use Rattle.product.specs.Product.{Rule}
+use Rattle.decide.specs.Sets.{member, chosen}
+use Rattle.decide.specs.Gather.{kindAt, classAt, overAt, underAt}
+use Rattle.decide.specs.Frame.{ruleBy}
+use Rattle.decide.specs.Turn.{UsesOf}
+
+-- each of the first n classes is its symbol
+abbrev pub SameSymbols : ℕ → List ℕ → Type 0
+SameSymbols n sy = (c : ℕ) → c < n → getD sy c 0 ≡ c
+
+-- the rule of row r, where its class is its symbol
+abbrev pub rowRule : List ℕ → ℕ → Rule
+rowRule rs r = ruleBy (kindAt rs r) (classAt rs r % 32) (overAt rs r) (underAt rs r)
+
+-- rule r was put into the sets of what it needs, and nothing else; and the first n rules
+pub record UsesPut (rs : List ℕ) (r : ℕ) (us us′ : List ℕ) : Type 0 where
+  pub long : length us′ ≡ 384
+  pub there : UsesOf us′ r (rowRule rs r)
+  pub kept : (s x : ℕ) → x < 256 → T (member us s x) → T (member us′ s x)
+  pub only : (s x : ℕ) → x < 256 → T (member us′ s x) → T (member us s x) ⊎ (r ≡ x)
+
+pub record UsesAll (rs : List ℕ) (n : ℕ) (us : List ℕ) : Type 0 where
+  pub long : length us ≡ 384
+  pub there : (r : ℕ) → r < n → UsesOf us r (rowRule rs r)
+  pub only : (s r : ℕ) → r < 256 → T (member us s r) → r < n
+
+-- rule r, if it is an exit; and the exits of the first n rules
+pub record ExitPut (rs : List ℕ) (r : ℕ) (w w′ : List ℕ) : Type 0 where
+  pub long : length w′ ≡ 4
+  pub is : (x : ℕ) → chosen w′ x ≡ chosen w x || (eqb r x && eqb (kindAt rs r) 0)
+
+pub record Exits (rs : List ℕ) (n : ℕ) (w : List ℕ) : Type 0 where
+  pub long : length w ≡ 4
+  pub is : (x : ℕ) → chosen w x ≡ ltb x n && eqb (kindAt rs x) 0

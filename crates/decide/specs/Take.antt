@@ -1,0 +1,51 @@
+-- Matrices that take in entries, and the ranks that the new ones get. What serves the decision's own functions. Assumes nothing.
+use mathlib.Core.Bool.{Bool, false, not, _&&_, _||_}
+use mathlib.Core.List.{List}
+use mathlib.Core.Path.{_≡_}
+use Prim.Native.Nat.{ℕ, _%_, _≤_, _<_}
+use lib.Dec.{T}
+use lib.ListN.{length, getD}
+use Rattle.table.specs.declared.Size.{Size}
+use Rattle.bits.specs.Bit.{bit}
+use Rattle.bits.specs.Matrix.{mat, mats, multiplied}
+use Rattle.decide.specs.Sets.{among}
+use Rattle.decide.specs.Stamp.{Sort, of-heads, of-triples, viewOf, cellsOf, Became, Entries, alone, named, ranked}
+
+-- The matrices e took in the entries m, and the table gave the new ones the rank k; w is the set of the symbols that have a new one.
+pub record Took (s : Sort) (z : Size) (k : ℕ) (m : Entries) (e xs : List ℕ) (w : ℕ) (e′ xs′ : List ℕ) : Type 0 where
+  pub as-long : length e′ ≡ length e
+  pub entries : (g q x : ℕ) → mats e′ g q x ≡ mats e g q x || m g q x
+  pub table : Became s z xs (ranked k (named s (λ g q x. m g q x && not (mats e g q x))) (viewOf s z xs)) xs′
+  pub quiet : (g : ℕ) → bit w g ≡ false → (q x : ℕ) → T (m g q x) → T (mats e g q x)
+  pub fresh : (g : ℕ) → T (bit w g) → (q : ℕ) × (x : ℕ) × T (m g q x) × T (not (mats e g q x))
+
+-- there is room for them
+pub record Room (s : Sort) (z : Size) (e xs : List ℕ) : Type 0 where
+  pub few : z .symbols ≤ 32
+  pub matrices : length e ≡ 32
+  pub long : cellsOf s z ≤ length xs
+
+-- the entry has a cell in the table
+abbrev pub Within : Sort → Size → (g q x : ℕ) → Type 0
+Within of-heads z g q x = (g < z .symbols) × (q ≡ 0) × (x < z .states)
+Within of-triples z g q x = (g < z .symbols) × (q < z .states) × (x < z .states)
+
+pub record Fits (s : Sort) (z : Size) (g m : ℕ) : Type 0 where
+  pub small : g < 32
+  pub inside : (q x : ℕ) → T (mat m q x) → Within s z g q x
+
+-- class c: its symbol, what it gives, once through its steps, and where that goes; and the classes of a set
+abbrev pub symbolAt : List ℕ → ℕ → ℕ
+symbolAt sy c = getD sy c 0 % 32
+
+unfoldable pub givenBy : (tg by : List ℕ) → (c : ℕ) → ℕ
+givenBy tg by c = multiplied (getD tg c 0) (getD by c 0)
+
+unfoldable pub fromClass : (sy tg by : List ℕ) → (c : ℕ) → Entries
+fromClass sy tg by c = alone (symbolAt sy c) (givenBy tg by c)
+
+unfoldable pub fromClasses : (sy tg by t : List ℕ) → Entries
+fromClasses sy tg by t g q x = among t (λ c. fromClass sy tg by c g q x)
+
+abbrev pub AllFit : Size → (sy tg by : List ℕ) → Type 0
+AllFit z sy tg by = (c : ℕ) → Fits of-triples z (symbolAt sy c) (givenBy tg by c)

@@ -1,0 +1,108 @@
+// What the rounds are run on, from a model: which rules need which symbol, the rules of the first round, and the final states.
+ghost use mathlib.Core.Bool.{Bool, false, cond, _&&_};
+ghost use mathlib.Core.Path.{_≡_};
+ghost use Prim.Native.Nat.{ℕ, _<_, _≤_, _^_};
+ghost use lib.Dec.{ltb};
+ghost use lib.ListN.{length, getD};
+ghost use Rattle.bits.specs.Bit.{bit};
+ghost use Rattle.decide.specs.Build.{SameSymbols, UsesPut, UsesAll, ExitPut, Exits};
+use crate::sets::add;
+use crate::sets::put;
+use crate::triples::low;
+
+// The symbol of each class: with one location a class is its symbol.
+pub fn symbols() -> [u8; 256]
+    ensures { λ sy. ⌜ SameSymbols 32 sy ⌝ }
+{
+    let mut sy = [0u8; 256];
+    let mut c: usize = 0;
+    while c < 32 {
+        sy[c] = c as u8;
+        c += 1;
+    }
+    sy
+}
+
+// Puts rule r into the sets of the symbols whose triples or heads it needs.
+fn put_uses(rules: &[u8; 1024], r: usize, us: &mut [u64; 384])
+    requires { ⌜ r < 256 ⌝ }
+    requires { ⌜ length (now us) ≡ 384 ⌝ }
+    ensures { λ _. ⌜ UsesPut (now (rules .entry)) r (now (us .entry)) (now (us .exit)) ⌝ }
+{
+    let kind = rules[4 * r];
+    if kind == 0 {
+        return;
+    }
+    put(us, 64 + low(rules[4 * r + 1]), r);
+    let g1 = low(rules[4 * r + 2]);
+    put(us, g1, r);
+    if kind == 1 {
+        return;
+    }
+    put(us, low(rules[4 * r + 3]), r);
+    put(us, 32 + g1, r);
+}
+
+// The sets of rules by what they need.
+pub fn uses(rules: &[u8; 1024], count: usize) -> [u64; 384]
+    requires { ⌜ count ≤ 256 ⌝ }
+    ensures { λ us. ⌜ UsesAll (now (rules .entry)) count us ⌝ }
+{
+    let mut us = [0u64; 384];
+    let mut r: usize = 0;
+    while r < count {
+        put_uses(rules, r, &mut us);
+        r += 1;
+    }
+    us
+}
+
+// Puts rule r into the set, if it is an exit.
+fn put_exit(rules: &[u8; 1024], r: usize, set: &mut [u64; 4])
+    requires { ⌜ r < 256 ⌝ }
+    requires { ⌜ length (now set) ≡ 4 ⌝ }
+    ensures { λ _. ⌜ ExitPut (now (rules .entry)) r (now (set .entry)) (now (set .exit)) ⌝ }
+{
+    if rules[4 * r] != 0 {
+        return;
+    }
+    add(set, r);
+}
+
+// The exits: the rules that give triples in the first round.
+pub fn exits(rules: &[u8; 1024], count: usize) -> [u64; 4]
+    requires { ⌜ count ≤ 256 ⌝ }
+    ensures { λ w. ⌜ Exits (now (rules .entry)) count w ⌝ }
+{
+    let mut w = [0u64; 4];
+    let mut r: usize = 0;
+    while r < count {
+        put_exit(rules, r, &mut w);
+        r += 1;
+    }
+    w
+}
+
+// State q as a set, if it is final.
+fn if_final(finals: &[bool; 8], q: usize) -> u64
+    requires { ⌜ q < 8 ⌝ }
+    ensures { λ r. ⌜ r ≡ cond (getD (now (finals .entry)) q false) (2 ^ q) 0 ⌝ }
+{
+    if finals[q] {
+        return 1u64 << (q as u64);
+    }
+    0
+}
+
+// The final states.
+pub fn final_states(finals: &[bool; 8]) -> u64
+    ensures { λ r. ⌜ ((x : ℕ) → bit r x ≡ ltb x 8 && getD (now (finals .entry)) x false) ⌝ }
+{
+    let mut r: u64 = 0;
+    let mut q: usize = 0;
+    while q < 8 {
+        r = r | if_final(finals, q);
+        q += 1;
+    }
+    r
+}

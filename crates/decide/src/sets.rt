@@ -1,0 +1,105 @@
+// Sets of numbers below 256, of rules or of classes, in four words; and such sets for each symbol.
+ghost use mathlib.Core.Path.{_≡_};
+ghost use Prim.Native.Nat.{ℕ, _<_, _+_, _≤_, _*_, _^_};
+ghost use lib.ListN.{length, getD};
+ghost use lib.Dec.{T};
+ghost use Rattle.bits.specs.Bit.{bit};
+ghost use Rattle.decide.specs.Turn.{Collected};
+ghost use Rattle.decide.specs.Sets.{With, FirstWord, Picked, Joined, Put};
+
+// Puts c into the set.
+pub fn add(set: &mut [u64; 4], c: usize)
+    requires { ⌜ length (now set) ≡ 4 ⌝ }
+    requires { ⌜ c < 256 ⌝ }
+    ensures { λ _. ⌜ With (now (set .entry)) c (now (set .exit)) ⌝ }
+{
+    let k = c / 64;
+    set[k] = set[k] | (1u64 << ((c % 64) as u64));
+}
+
+// The first word that is not empty, or 4.
+fn first_word(set: &[u64; 4]) -> usize
+    ensures { λ k. ⌜ FirstWord (now (set .entry)) k ⌝ }
+{
+    if set[0] != 0 {
+        return 0;
+    }
+    if set[1] != 0 {
+        return 1;
+    }
+    if set[2] != 0 {
+        return 2;
+    }
+    if set[3] != 0 {
+        return 3;
+    }
+    4
+}
+
+// Takes the lowest member out of word k, which is d.
+fn pick_in(set: &mut [u64; 4], k: usize, d: u64) -> usize
+    requires { ⌜ length (now set) ≡ 4 ⌝ }
+    requires { ⌜ (k < 4) × (0 < d) × (getD (now set) k 0 ≡ d) ⌝ }
+    ensures { λ r. ⌜ Picked (now (set .entry)) r (now (set .exit)) ⌝ }
+{
+    set[k] = d & (d - 1);
+    let j = u64::trailing_zeros(d) as usize;
+    k * 64 + j
+}
+
+// Takes the lowest member out of the set; 256 where it has none.
+pub fn pick(set: &mut [u64; 4]) -> usize
+    requires { ⌜ length (now set) ≡ 4 ⌝ }
+    ensures { λ r. ⌜ Picked (now (set .entry)) r (now (set .exit)) ⌝ }
+{
+    let k = first_word(set);
+    if k == 4 {
+        return 256;
+    }
+    let d = set[k];
+    pick_in(set, k, d)
+}
+
+// The set with the members of set number s.
+fn join(set: [u64; 4], sets: &[u64; 384], s: usize) -> [u64; 4]
+    requires { ⌜ length set ≡ 4 ⌝ }
+    requires { ⌜ s < 96 ⌝ }
+    ensures { λ r. ⌜ Joined set (now (sets .entry)) s r ⌝ }
+{
+    let at = s * 4;
+    [
+        set[0] | sets[at],
+        set[1] | sets[at + 1],
+        set[2] | sets[at + 2],
+        set[3] | sets[at + 3],
+    ]
+}
+
+// Puts r into set number s.
+pub fn put(sets: &mut [u64; 384], s: usize, r: usize)
+    requires { ⌜ s < 96 ⌝ }
+    requires { ⌜ r < 256 ⌝ }
+    requires { ⌜ length (now sets) ≡ 384 ⌝ }
+    ensures { λ _. ⌜ Put (now (sets .entry)) s r (now (sets .exit)) ⌝ }
+{
+    let at = s * 4 + r / 64;
+    sets[at] = sets[at] | (1u64 << ((r % 64) as u64));
+}
+
+// The set with the members of those sets, from number `from` on, whose place stands in `places`.
+pub fn collect(sets: &[u64; 384], from: usize, places: u64, set: [u64; 4]) -> [u64; 4]
+    requires { ⌜ from + 32 ≤ 96 ⌝ }
+    requires { ⌜ ((g : ℕ) → T (bit places g) → g < 32) ⌝ }
+    requires { ⌜ length set ≡ 4 ⌝ }
+    ensures { λ r. ⌜ Collected (now (sets .entry)) from places set r ⌝ }
+{
+    let mut d = places;
+    let mut w = set;
+    while d != 0 {
+        let g = u64::trailing_zeros(d) as usize;
+        d = d & (d - 1);
+        let joined = join(w, sets, from + g);
+        w = joined;
+    }
+    w
+}

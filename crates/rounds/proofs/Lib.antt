@@ -1,4 +1,0 @@
-pub mod Steps
-pub mod Rows
-pub mod Applied
-pub mod InPlace

@@ -1,0 +1,138 @@
+-- The matrices of the classes are the steps of a valid model's product, rule by rule. Assumes nothing.
+use mathlib.Core.Bool.{Bool, true, false, cond, _&&_}
+use mathlib.Core.List.{List}
+use mathlib.Core.Option.{some}
+use mathlib.Core.Path.{_≡_, refl, sym, ap, _∙_, subst, subst⁻¹}
+use Prim.Native.Nat.{ℕ, zero, suc, _+_, _*_, _^_, _<_, min}
+use native.Mathlib.Decide.{decLt}
+use native.Mathlib.Omega.{arith}
+use lib.Dec.{T, eqb, ltb, eqb→eq, ltb→lt, lt→ltb, lit<, eqb-refl, eqb·suc-zero, eqb·suc-suc}
+use lib.ListN.{length, getD}
+use borrow.Author.Tests.{lt-ltb}
+use Rattle.product.specs.Product.{symbol, Step}
+use Rattle.product.proofs.Lists.{and-left, and-right, both, same-truth}
+use Rattle.bits.specs.Matrix.{mat, mats}
+use Rattle.bits.proofs.Set.{word-lt}
+use Rattle.bits.proofs.Some.{some-of, of-some}
+use Rattle.model.specs.declared.Model.{Model}
+use Rattle.model.specs.Model.{inRow, ruleBy, ruleAt, showsAt, rule, move, productOf}
+use Rattle.model.specs.Valid.{valid}
+use Rattle.model.proofs.Steps.{next-is, fits-next}
+use Rattle.model.proofs.Valid.{valid-move, valid-sizes, product-in}
+use Rattle.steps.specs.Steps.{classOf, stepBy, stepsBy, stepsOf, classSteps}
+use Rattle.steps.specs.Steps as specs
+use Rattle.steps.proofs.Words.{matrix-at, zero-at, gathered-at, gathered-past, length-gathered}
+
+-- today a rule's class is its symbol
+symbol-by : (k g g1 g2 : ℕ) → symbol (ruleBy k g g1 g2) ≡ g
+symbol-by zero g g1 g2 = refl
+symbol-by (suc zero) g g1 g2 = refl
+symbol-by (suc (suc k)) g g1 g2 = rw (eqb·suc-zero (suc k), eqb·suc-suc (suc k) 0, eqb·suc-zero k)
+
+pub class-is : (rows : List ℕ) (r : ℕ) → r < 256 → symbol (ruleAt rows r) ≡ classOf rows r
+unfolding classOf
+class-is rows r l = symbol-by (inRow 4 rows r 0) (inRow 4 rows r 1) (inRow 4 rows r 2) (inRow 4 rows r 3) ∙ ap (λ b. cond b (inRow 4 rows r 1) 0) (sym (lt-ltb r 256 l))
+
+module _ (rows : List ℕ) (shows : List Bool) (moves symbols : ℕ) where
+  pub length-steps : length (classSteps rows shows moves symbols) ≡ 256
+  unfolding classSteps
+  length-steps = length-gathered 256 (stepsOf rows shows moves symbols)
+
+  steps-of : (c : ℕ) → getD (classSteps rows shows moves symbols) c 0 ≡ stepsOf rows shows moves symbols c
+  unfolding classSteps stepsOf
+  steps-of c = go (decLt c 256)
+    where
+      go : Dec (c < 256) → getD (classSteps rows shows moves symbols) c 0 ≡ stepsOf rows shows moves symbols c
+      go (yes l) = gathered-at 256 (stepsOf rows shows moves symbols) c l
+      go (no l) =
+          gathered-past 256 (stepsOf rows shows moves symbols) c (omega arith)
+          ∙ ap (λ b. cond b (specs.matrix (stepsBy rows shows moves c)) 0) (same-truth false (ltb c (min symbols 32)) (λ t. absurd t) (λ t. absurd (let i = ltb→lt c (min symbols 32) t in omega arith)))
+
+  pub steps-lt : (c : ℕ) → getD (classSteps rows shows moves symbols) c 0 < 2 ^ 64
+  unfolding stepsOf
+  steps-lt c = subst⁻¹ (λ n. n < 2 ^ 64) (steps-of c) (go (ltb c (min symbols 32)))
+    where
+      go : (b : Bool) → cond b (specs.matrix (stepsBy rows shows moves c)) 0 < 2 ^ 64
+      go true = word-lt 64 _
+      go false = lit< tt
+
+  -- the entries of every matrix
+  pub steps-at : (c q x : ℕ) → mats (classSteps rows shows moves symbols) c q x ≡ ltb c (min symbols 32) && (ltb q 8 && ltb x 8 && stepsBy rows shows moves c q x)
+  unfolding stepsOf
+  steps-at c q x = ap (λ n. mat n q x) (steps-of c) ∙ go (ltb c (min symbols 32))
+    where
+      go : (b : Bool) → mat (cond b (specs.matrix (stepsBy rows shows moves c)) 0) q x ≡ b && (ltb q 8 && ltb x 8 && stepsBy rows shows moves c q x)
+      go true = matrix-at (stepsBy rows shows moves c) q x
+      go false = zero-at q x
+
+module _ (m : Model) (valid-m : T (valid m)) where
+  abbrev tg : List ℕ
+  tg = classSteps (m .moverows) (m .shows) (m .moves) (m .symbols)
+
+  -- the numbers of a move are in range
+  move-in : (v : ℕ) → v < m .moves → (move m v .source < m .states) × (move m v .event < m .events) × (move m v .target < m .states)
+  move-in v l =
+      let t = valid-move m valid-m v l in
+      let a : Bool = ltb (move m v .source) (m .states) in
+      let b : Bool = ltb (move m v .event) (m .events) in
+      let c : Bool = ltb (move m v .target) (m .states) in
+      let u : T (a && b) = and-left (a && b) c t in
+      (ltb→lt (move m v .source) (m .states) (and-left a b u), ltb→lt (move m v .event) (m .events) (and-right a b u), ltb→lt (move m v .target) (m .states) (and-right (a && b) c t))
+
+  -- an entry is a move of an event that the symbol shows
+  pub entry-is : (c q q′ : ℕ) → T (mats tg c q q′)
+      → (c < m .symbols) × (v : ℕ) × (v < m .moves) × (move m v .source ≡ q) × T (showsAt (m .shows) c (move m v .event)) × (move m v .target ≡ q′)
+  unfolding stepsBy
+  entry-is c q q′ t =
+      let u = subst T (steps-at (m .moverows) (m .shows) (m .moves) (m .symbols) c q q′) t in
+      let i : Bool = ltb c (min (m .symbols) 32) in
+      let j : Bool = ltb q 8 && ltb q′ 8 in
+      let w = and-right j (stepsBy (m .moverows) (m .shows) (m .moves) c q q′) (and-right i (j && stepsBy (m .moverows) (m .shows) (m .moves) c q q′) u) in
+      let (v, l, x) = of-some (min (m .moves) 128) (λ v. stepBy (m .moverows) (m .shows) c v q q′) w in
+      let a : Bool = ltb (move m v .event) 16 in
+      let b : Bool = eqb (move m v .source) q in
+      let s : Bool = showsAt (m .shows) c (move m v .event) in
+      let d : Bool = eqb (move m v .target) q′ in
+      let y = and-right a (b && s) (and-left (a && (b && s)) d x) in
+      let k : c < min (m .symbols) 32 = ltb→lt c (min (m .symbols) 32) (and-left i (j && stepsBy (m .moverows) (m .shows) (m .moves) c q q′) u) in
+      (omega arith, v, omega arith, eqb→eq (move m v .source) q (and-left b s y), and-right b s y, eqb→eq (move m v .target) q′ (and-right (a && (b && s)) d x))
+
+  is-entry : (c v : ℕ) → c < m .symbols → v < m .moves → T (showsAt (m .shows) c (move m v .event)) → T (mats tg c (move m v .source) (move m v .target))
+  unfolding stepsBy
+  is-entry c v i l s =
+      let z = valid-sizes m valid-m in
+      let (x, y, w) = move-in v l in
+      subst⁻¹ T (steps-at (m .moverows) (m .shows) (m .moves) (m .symbols) c (move m v .source) (move m v .target))
+      (rw (lt-ltb c (min (m .symbols) 32) (omega arith), lt-ltb (move m v .source) 8 (omega arith), lt-ltb (move m v .target) 8 (omega arith))
+      (some-of (min (m .moves) 128) (λ w. stepBy (m .moverows) (m .shows) c w (move m v .source) (move m v .target)) v (omega arith)
+      (both (ltb (move m v .event) 16 && (eqb (move m v .source) (move m v .source) && showsAt (m .shows) c (move m v .event))) (eqb (move m v .target) (move m v .target))
+      (both (ltb (move m v .event) 16) (eqb (move m v .source) (move m v .source) && showsAt (m .shows) c (move m v .event)) (lt→ltb (move m v .event) 16 (omega arith))
+      (both (eqb (move m v .source) (move m v .source)) (showsAt (m .shows) c (move m v .event)) (eqb-refl (move m v .source)) s))
+      (eqb-refl (move m v .target)))))
+
+  -- both ends are states
+  pub steps-in : (c q q′ : ℕ) → T (mats tg c q q′) → (q < m .states) × (q′ < m .states)
+  steps-in c q q′ t =
+      let (_, v, l, x, _, y) = entry-is c q q′ t in
+      let (i, _, j) = move-in v l in
+      (subst (λ n. n < m .states) x i, subst (λ n. n < m .states) y j)
+
+  abbrev named : (r v : ℕ) → Step
+  named r v = record { by-rule = r; by-move = v }
+
+  module _ (r : ℕ) (there : r < m .rules) where
+    pub class-of : symbol (rule m r) ≡ classOf (m .rulerows) r
+    class-of = class-is (m .rulerows) r (omega (arith, there, valid-sizes m valid-m .rules))
+
+    -- a step of the product is an entry of its rule's matrix
+    pub step-entry : (v q q′ : ℕ) → productOf m .next (named r v) q ≡ some q′ → T (mats tg (symbol (rule m r)) q q′)
+    step-entry v q q′ e =
+        let (f, y) = next-is m (named r v) q q′ e in
+        subst (λ q. T (mats tg (symbol (rule m r)) q q′)) (f .here)
+        (subst (λ q′. T (mats tg (symbol (rule m r)) (move m v .source) q′)) y
+        (is-entry (symbol (rule m r)) v (product-in m valid-m .rules-in r there .0) (f .move-there) (f .seen)))
+
+    pub entry-step : (q q′ : ℕ) → T (mats tg (symbol (rule m r)) q q′) → (v : ℕ) × (v < m .moves) × (productOf m .next (named r v) q ≡ some q′)
+    entry-step q q′ t =
+        let (_, v, l, x, s, y) = entry-is (symbol (rule m r)) q q′ t in
+        (v, l, fits-next m (named r v) q (symbol (rule m r)) (record { rule-there = there; move-there = l; top = refl; here = x; seen = s }) ∙ ap some y)

@@ -1,0 +1,5 @@
+pub mod Words
+pub mod Events
+pub mod Built
+pub mod Marks
+pub mod Laws

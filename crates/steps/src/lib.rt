@@ -1,0 +1,149 @@
+// The steps of each class of rules, as matrices: from which state to which. A rule's class is what its steps do to the property state; with
+// one location that is its symbol.
+ghost use mathlib.Core.Bool.{cond, _&&_, _||_};
+ghost use mathlib.Core.Path.{_≡_};
+ghost use Prim.Native.Nat.{ℕ, _+_, _*_, _^_, _<_, _≤_, min};
+ghost use lib.ListN.{getD};
+ghost use Rattle.bits.specs.Bit.{bit};
+ghost use Rattle.bits.specs.Matrix.{some};
+ghost use Rattle.model.specs.Model.{showsAt};
+ghost use Rattle.steps.specs.Events.{eventSteps, withMove, marks, marked};
+ghost use Rattle.steps.specs.Steps.{classOf, classSteps};
+
+fn wide(x: u8) -> u64
+    ensures { λ r. ⌜ r ≡ x ⌝ }
+{
+    x as u64
+}
+
+fn index(x: u8) -> usize
+    ensures { λ r. ⌜ r ≡ x ⌝ }
+    ensures { λ r. ⌜ r < 256 ⌝ }
+{
+    x as usize
+}
+
+fn at_most(n: usize, most: usize) -> usize
+    ensures { λ r. ⌜ r ≡ min n most ⌝ }
+{
+    if n < most {
+        return n;
+    }
+    most
+}
+
+// Enters a move from q by e to x into the matrix of its event; one whose numbers have no place there is let be.
+fn put_move(on: &mut [u64; 16], q: u64, e: usize, x: u64)
+    ensures { λ _. ⌜ now (on .exit) ≡ withMove (now (on .entry)) q e x ⌝ }
+{
+    if 8 <= q {
+        return;
+    }
+    if 8 <= x {
+        return;
+    }
+    if 16 <= e {
+        return;
+    }
+    on[e] = on[e] | (1u64 << (q * 8 + x));
+}
+
+// For each event the matrix of its moves.
+fn by_event(moverows: &[u8; 384], moves: usize) -> [u64; 16]
+    ensures { λ r. ⌜ r ≡ eventSteps (now (moverows .entry)) moves ⌝ }
+{
+    let mut on = [0u64; 16];
+    let n = at_most(moves, 128);
+    let mut v: usize = 0;
+    while v < n {
+        put_move(
+            &mut on,
+            wide(moverows[v * 3 + 0]),
+            index(moverows[v * 3 + 1]),
+            wide(moverows[v * 3 + 2]),
+        );
+        v += 1;
+    }
+    on
+}
+
+// Bit 8 k, if the truth is so: its mark in byte k of a word.
+fn mark(truth: bool, k: usize) -> u64
+    requires { ⌜ k < 8 ⌝ }
+    ensures { λ r. ⌜ r ≡ cond truth (2 ^ (k * 8)) 0 ⌝ }
+{
+    if truth {
+        return 1u64 << ((k * 8) as u64);
+    }
+    0
+}
+
+// The eight truths from number `at` on, a byte each: as they lie in memory, so that the compiler reads them at once.
+fn eight(shows: &[bool; 512], at: usize) -> u64
+    requires { ⌜ at + 8 ≤ 512 ⌝ }
+    ensures { λ w. ⌜ w ≡ marks (now (shows .entry)) at 8 ⌝ }
+{
+    let mut w: u64 = 0;
+    let mut k: usize = 0;
+    while k < 8 {
+        w = w | mark(shows[at + k], k);
+        k += 1;
+    }
+    w
+}
+
+// m with the matrices of the events that are marked in w, whose first byte is that of event `from`.
+fn join(on: &[u64; 16], from: usize, w: u64, m: u64) -> u64
+    requires { ⌜ from + 8 ≤ 16 ⌝ }
+    ensures { λ r. ⌜ ((i : ℕ) → bit r i ≡ bit m i || marked (now (on .entry)) from w i) ⌝ }
+{
+    let mut d = w;
+    let mut r = m;
+    while d != 0 {
+        let e = u64::trailing_zeros(d) as usize / 8;
+        d = d & (d - 1);
+        r = r | on[from + e];
+    }
+    r
+}
+
+// The matrix of symbol g: those of the events that it shows, joined; every symbol shows event 0.
+fn symbol_steps<'a>(on: &'a [u64; 16], shows: &'a [bool; 512], g: usize) -> u64
+    requires { ⌜ g < 32 ⌝ }
+    ensures { λ r. ⌜ ((i : ℕ) → bit r i ≡ some 16 (λ e. showsAt (now (shows .entry)) g e && bit (getD (now (on .entry)) e 0) i)) ⌝ }
+{
+    let at = g * 16;
+    let m = join(on, 0, eight(shows, at), on[0]);
+    join(on, 8, eight(shows, at + 8), m)
+}
+
+// For each class of rules the matrix of its steps.
+pub fn class_steps<'a>(
+    moverows: &'a [u8; 384],
+    shows: &'a [bool; 512],
+    moves: usize,
+    symbols: usize,
+) -> [u64; 256]
+    ensures { λ r. ⌜ r ≡ classSteps (now (moverows .entry)) (now (shows .entry)) moves symbols ⌝ }
+{
+    let on = by_event(moverows, moves);
+    let mut tg = [0u64; 256];
+    let n = at_most(symbols, 32);
+    let mut g: usize = 0;
+    while g < n {
+        tg[g] = symbol_steps(&on, shows, g);
+        g += 1;
+    }
+    tg
+}
+
+// The class of rule r; there is no rule past 256, and 0 is answered.
+pub fn class_of(rulerows: &[u8; 1024], r: usize) -> usize
+    ensures { λ c. ⌜ c ≡ classOf (now (rulerows .entry)) r ⌝ }
+    ensures { λ c. ⌜ c < 256 ⌝ }
+{
+    if 256 <= r {
+        return 0;
+    }
+    index(rulerows[r * 4 + 1])
+}
