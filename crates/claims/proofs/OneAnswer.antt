@@ -79,6 +79,7 @@ each-answer = record {
   through = λ v b. equal _;
   class-steps = λ moverows shows moves symbols. equal _;
   class-of = λ rulerows r c c′ e e′. e .0 ∙ sym (e′ .0);
+  states-after = λ rulerows tg r from. equal _;
   read-line = λ s. equal _;
   refusal-of = λ k w a b c. equal _;
   take-line = λ o finals shows rulerows moverows l. parted notedOf (λ x. refl) _;

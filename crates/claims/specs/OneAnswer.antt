@@ -23,7 +23,7 @@ use Rattle.model.specs.Answers.{ruleAs, nextAs, meant, landed}
 use Rattle.model.specs.Model.{ruleAt, nextAt}
 use Rattle.model.specs.Valid.{valid}
 use Rattle.bits.specs.Matrix.{multiplied, image}
-use Rattle.steps.specs.Steps.{classOf, classSteps}
+use Rattle.steps.specs.Steps.{classOf, classSteps, statesAfter}
 use Rattle.line.specs.declared.Word.{Word}
 use Rattle.line.specs.declared.Line.{Line}
 use Rattle.line.specs.Line.{lineAt}
@@ -91,6 +91,7 @@ pub record OneAnswer : Type 0 where
   -- steps
   pub class-steps : (moverows : List ℕ) (shows : List Bool) (moves symbols : ℕ) → One (λ r. r ≡ classSteps moverows shows moves symbols)
   pub class-of : (rulerows : List ℕ) (r : ℕ) → One (λ c. (c ≡ classOf rulerows r) × (c < 256))
+  pub states-after : (rulerows tg : List ℕ) (r from : ℕ) → One (λ x. x ≡ statesAfter rulerows tg r from)
   -- line
   pub read-line : (s : List ℕ) → One (λ r. r ≡ lineAt s)
   -- limits and draft

@@ -11,10 +11,10 @@ use lib.Seq.{getD-set-same, getD-set-other}
 use borrow.Author.Tests.{lt-ltb, le-ltb}
 use Rattle.product.proofs.Lists.{and-left, and-right, both, same-truth}
 use Rattle.bits.specs.Bit.{bit}
-use Rattle.bits.specs.Matrix.{some}
+use Rattle.bits.specs.Matrix.{some, image}
 use Rattle.bits.proofs.Some.{some-of, of-some}
 use Rattle.model.specs.Model.{inRow, moveAt, showsAt}
-use Rattle.steps.specs.Steps.{matrix, classOf, stepBy, stepsBy, stepsOf, classSteps}
+use Rattle.steps.specs.Steps.{matrix, classOf, stepBy, stepsBy, stepsOf, classSteps, statesAfter}
 use Rattle.steps.specs.Events.{moveBy, eventSteps}
 use Rattle.steps.proofs.Words.{is-word, is-gathered, zeros-at}
 use Rattle.steps.proofs.Events.{events-at}
@@ -126,3 +126,7 @@ module _ (rows : List ℕ) (r : ℕ) where
   pub class-row : r < 256 → {c : ℕ} → c ≡ inRow 4 rows r 1 → c ≡ classOf rows r
   unfolding classOf
   class-row l e = rw (lt-ltb r 256 l) e
+
+pub is-after : (rows tg : List ℕ) (r from : ℕ) {c x : ℕ} → c ≡ classOf rows r → x ≡ image from (getD tg c 0) → x ≡ statesAfter rows tg r from
+unfolding statesAfter
+is-after rows tg r from e h = h ∙ ap (λ c. image from (getD tg c 0)) e

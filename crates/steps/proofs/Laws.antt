@@ -1,25 +1,30 @@
 -- The matrices of the classes are the steps of a valid model's product, rule by rule. Assumes nothing.
 use mathlib.Core.Bool.{Bool, true, false, cond, _&&_}
 use mathlib.Core.List.{List}
+use mathlib.Core.Logic.{_↔_}
 use mathlib.Core.Option.{some}
 use mathlib.Core.Path.{_≡_, refl, sym, ap, _∙_, subst, subst⁻¹}
 use Prim.Native.Nat.{ℕ, zero, suc, _+_, _*_, _^_, _<_, min}
 use native.Mathlib.Decide.{decLt}
+use native.Mathlib.Nat.{zero-add}
 use native.Mathlib.Omega.{arith}
 use lib.Dec.{T, eqb, ltb, eqb→eq, ltb→lt, lt→ltb, lit<, eqb-refl, eqb·suc-zero, eqb·suc-suc}
 use lib.ListN.{length, getD}
 use borrow.Author.Tests.{lt-ltb}
 use Rattle.product.specs.Product.{symbol, Step}
 use Rattle.product.proofs.Lists.{and-left, and-right, both, same-truth}
-use Rattle.bits.specs.Matrix.{mat, mats}
+use Rattle.bits.specs.Bit.{bit}
+use Rattle.bits.specs.Matrix.{mat, mats, passed}
+use Rattle.bits.proofs.Image.{image-at}
 use Rattle.bits.proofs.Set.{word-lt}
 use Rattle.bits.proofs.Some.{some-of, of-some}
 use Rattle.model.specs.declared.Model.{Model}
 use Rattle.model.specs.Model.{inRow, ruleBy, ruleAt, showsAt, rule, move, productOf}
 use Rattle.model.specs.Valid.{valid}
+use Rattle.model.proofs.Bounds.{step-in}
 use Rattle.model.proofs.Steps.{next-is, fits-next}
 use Rattle.model.proofs.Valid.{valid-move, valid-sizes, product-in}
-use Rattle.steps.specs.Steps.{classOf, stepBy, stepsBy, stepsOf, classSteps}
+use Rattle.steps.specs.Steps.{classOf, stepBy, stepsBy, stepsOf, classSteps, statesAfter}
 use Rattle.steps.specs.Steps as specs
 use Rattle.steps.proofs.Words.{matrix-at, zero-at, gathered-at, gathered-past, length-gathered}
 
@@ -136,3 +141,27 @@ module _ (m : Model) (valid-m : T (valid m)) where
     entry-step q q′ t =
         let (_, v, l, x, s, y) = entry-is (symbol (rule m r)) q q′ t in
         (v, l, fits-next m (named r v) q (symbol (rule m r)) (record { rule-there = there; move-there = l; top = refl; here = x; seen = s }) ∙ ap some y)
+
+    -- a state is in `states_after` exactly if some move makes a step of the rule there, from a state of the set
+    pub states-after : (set q′ : ℕ) → T (bit (statesAfter (m .rulerows) tg r set) q′) ↔ ((q : ℕ) × (v : ℕ) × T (bit set q) × (productOf m .next (named r v) q ≡ some q′))
+    unfolding statesAfter passed
+    states-after set q′ = (to, from)
+      where
+        way : ℕ → Bool
+        way k = mat set 0 k && mats tg (classOf (m .rulerows) r) k q′
+
+        to : T (bit (statesAfter (m .rulerows) tg r set) q′) → (q : ℕ) × (v : ℕ) × T (bit set q) × (productOf m .next (named r v) q ≡ some q′)
+        to t =
+            let (q, l, u) = of-some 8 way (subst T (image-at set (getD tg (classOf (m .rulerows) r) 0) q′) t) in
+            let a = and-right (ltb 0 8 && ltb q 8) (bit set (0 * 8 + q)) (and-left (mat set 0 q) (mats tg (classOf (m .rulerows) r) q q′) u) in
+            let (v, _, e) = entry-step q q′ (subst⁻¹ (λ c. T (mats tg c q q′)) class-of (and-right (mat set 0 q) (mats tg (classOf (m .rulerows) r) q q′) u)) in
+            (q, v, subst (λ n. T (bit set n)) (zero-add q) a, e)
+
+        from : (q : ℕ) × (v : ℕ) × T (bit set q) × (productOf m .next (named r v) q ≡ some q′) → T (bit (statesAfter (m .rulerows) tg r set) q′)
+        from (q, v, a, e) =
+            let l : q < 8 = omega (arith, step-in m valid-m (named r v) q q′ e .0, valid-sizes m valid-m .states) in
+            subst⁻¹ T (image-at set (getD tg (classOf (m .rulerows) r) 0) q′)
+            (some-of 8 way q l
+            (both (mat set 0 q) (mats tg (classOf (m .rulerows) r) q q′)
+            (both (ltb 0 8 && ltb q 8) (bit set (0 * 8 + q)) (lt→ltb q 8 l) (subst⁻¹ (λ n. T (bit set n)) (zero-add q) a))
+            (subst (λ c. T (mats tg c q q′)) class-of (step-entry v q q′ e))))

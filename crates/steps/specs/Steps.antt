@@ -4,10 +4,11 @@ use mathlib.Core.Bool.{Bool, cond, _&&_}
 use mathlib.Core.List.{List}
 use Prim.Native.Nat.{ℕ, _/_, _%_, min}
 use lib.Dec.{eqb, ltb}
+use lib.ListN.{getD}
 use Rattle.product.specs.Lists.{upTo, each}
 use Rattle.product.specs.Product.{exit}
 use Rattle.bits.specs.Bit.{word}
-use Rattle.bits.specs.Matrix.{some}
+use Rattle.bits.specs.Matrix.{some, image}
 use Rattle.model.specs.Model.{inRow, moveAt, fitsAt}
 
 -- the number of a rule's class, for the first 256 rules
@@ -32,3 +33,7 @@ stepsOf moverows shows moves symbols c = cond (ltb c (min symbols 32)) (matrix (
 
 unfoldable pub classSteps : (moverows : List ℕ) → (shows : List Bool) → (moves symbols : ℕ) → List ℕ
 classSteps moverows shows moves symbols = each (upTo 256) (stepsOf moverows shows moves symbols)
+
+-- where the steps of rule r lead from the set of states, by the matrices tg of the classes
+unfoldable pub statesAfter : (rulerows tg : List ℕ) → (r from : ℕ) → ℕ
+statesAfter rulerows tg r from = image from (getD tg (classOf rulerows r) 0)

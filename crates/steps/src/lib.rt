@@ -8,7 +8,7 @@ ghost use Rattle.bits.specs.Bit.{bit};
 ghost use Rattle.bits.specs.Matrix.{some};
 ghost use Rattle.model.specs.Model.{showsAt};
 ghost use Rattle.steps.specs.Events.{eventSteps, withMove, marks, marked};
-ghost use Rattle.steps.specs.Steps.{classOf, classSteps};
+ghost use Rattle.steps.specs.Steps.{classOf, classSteps, statesAfter};
 
 fn wide(x: u8) -> u64
     ensures { λ r. ⌜ r ≡ x ⌝ }
@@ -146,4 +146,12 @@ pub fn class_of(rulerows: &[u8; 1024], r: usize) -> usize
         return 0;
     }
     index(rulerows[r * 4 + 1])
+}
+
+// The states to which rule r can step from those in `from`.
+pub fn states_after<'a>(rulerows: &'a [u8; 1024], tg: &'a [u64; 256], r: usize, from: u64) -> u64
+    ensures { λ x. ⌜ x ≡ statesAfter (now (rulerows .entry)) (now (tg .entry)) r from ⌝ }
+{
+    let c = class_of(rulerows, r);
+    bits::through(from, tg[c])
 }
