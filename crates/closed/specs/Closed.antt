@@ -8,7 +8,7 @@ use lib.ListN.{getD}
 use Rattle.product.specs.Product.{Rule, exit, direct, call, symbol}
 use Rattle.bits.specs.Matrix.{multiplied, image}
 
--- of the 32 the one of symbol g
+-- of the 32 the one of symbol g; a valid model has no symbol from 32 on, and for one the count begins again at 0
 unfoldable pub ofSymbol : List ℕ → (g : ℕ) → ℕ
 ofSymbol xs g = getD xs (g % 32) 0
 

@@ -11,7 +11,7 @@ use Rattle.bits.specs.Bit.{word}
 use Rattle.bits.specs.Matrix.{some, image}
 use Rattle.model.specs.Model.{inRow, moveAt, fitsAt}
 
--- the number of a rule's class, for the first 256 rules
+-- the number of a rule's class, for the first 256 rules; 0 for any other number, which no valid model has as a rule
 unfoldable pub classOf : (rulerows : List ℕ) → (r : ℕ) → ℕ
 classOf rulerows r = cond (ltb r 256) (inRow 4 rulerows r 1) 0
 

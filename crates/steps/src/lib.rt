@@ -137,7 +137,7 @@ pub fn class_steps<'a>(
     tg
 }
 
-// The class of rule r; there is no rule past 256, and 0 is answered.
+// The class of rule r; 0 for a number from 256 on, which is no rule.
 pub fn class_of(rulerows: &[u8; 1024], r: usize) -> usize
     ensures { λ c. ⌜ c ≡ classOf (now (rulerows .entry)) r ⌝ }
     ensures { λ c. ⌜ c < 256 ⌝ }
