@@ -40,3 +40,12 @@ pub record ExitPut (rs : List ℕ) (r : ℕ) (w w′ : List ℕ) : Type 0 where
 pub record Exits (rs : List ℕ) (n : ℕ) (w : List ℕ) : Type 0 where
   pub long : length w ≡ 4
   pub is : (x : ℕ) → chosen w x ≡ ltb x n && eqb (kindAt rs x) 0
+
+-- both: rule r was put where it belongs, and the first n rules were
+pub record RulePut (rs : List ℕ) (r : ℕ) (us w us′ w′ : List ℕ) : Type 0 where
+  pub uses : UsesPut rs r us us′
+  pub exits : ExitPut rs r w w′
+
+pub record RulesSorted (rs : List ℕ) (n : ℕ) (us w : List ℕ) : Type 0 where
+  pub uses : UsesAll rs n us
+  pub exits : Exits rs n w
