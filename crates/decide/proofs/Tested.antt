@@ -8,7 +8,7 @@ use lib.ListN.{length}
 use borrow.Author.Tests.{not-true, not-false}
 use Rattle.table.proofs.Long.{long-exactly}
 use Rattle.model.specs.declared.Model.{Model}
-use Rattle.model.specs.declared.Outline.{Outline}
+use Rattle.model.specs.declared.Shape.{Shape}
 use Rattle.model.specs.Valid.{ofParts, valid}
 use Rattle.decide.specs.declared.Decision.{Decision}
 use Rattle.decide.specs.declared.Decision.the-variants.{Invalid, Short}
@@ -16,10 +16,10 @@ use Rattle.decide.specs.Decided.{longEnough, decision, headsLeft, triple
 use Rattle.decide.specs.Ran.{Able, Ran}
 
 -- what a record says beside its arrays; a record's parts are valid exactly if it is
-abbrev outline : Model → Outline
-outline m = record { symbols = m .symbols; states = m .states; events = m .events; startstate = m .startstate; startsymbol = m .startsymbol; rules = m .rules; moves = m .moves }
+abbrev shape : Model → Shape
+shape m = record { symbols = m .symbols; states = m .states; events = m .events; startstate = m .startstate; startsymbol = m .startsymbol; rules = m .rules; moves = m .moves }
 
-pub of-parts : (m : Model) {b : Bool} → b ≡ valid (ofParts (outline m) (m .rulerows) (m .moverows) [] []) → b ≡ valid m
+pub of-parts : (m : Model) {b : Bool} → b ≡ valid (ofParts (shape m) (m .rulerows) (m .moverows) [] []) → b ≡ valid m
 unfolding valid
 of-parts m e = e
 

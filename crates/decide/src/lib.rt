@@ -8,7 +8,7 @@ use crate::build::sort_rules;
 use crate::build::symbols;
 use crate::sets::collect;
 use model::Model;
-use model::Outline;
+use model::Shape;
 use table::Size;
 
 // A verdict with its rounds, or a refusal: 6, 7, and 8 with the budget.
@@ -38,7 +38,7 @@ fn start(heads: &mut [u16], triples: &mut [u16], size: Size, q: usize, g: usize)
 
 // The rounds of a valid model, which is lent in parts, in arrays that are long enough.
 fn run<'a>(
-    o: Outline,
+    shape: Shape,
     rulerows: &'a [u8; 1024],
     moverows: &'a [u8; 384],
     shows: &'a [bool; 512],
@@ -47,21 +47,21 @@ fn run<'a>(
     heads: &mut [u16],
     triples: &mut [u16],
 ) -> Decision
-    requires { ⌜ Able (ofParts o (now rulerows) (now moverows) (now shows) (now finals)) (now heads) (now triples) ⌝ }
-    ensures { λ r. ⌜ Ran (ofParts o (now (rulerows .entry)) (now (moverows .entry)) (now (shows .entry)) (now (finals .entry))) budget (now (heads .entry)) (now (triples .entry)) r (now (heads .exit)) (now (triples .exit)) ⌝ }
+    requires { ⌜ Able (ofParts shape (now rulerows) (now moverows) (now shows) (now finals)) (now heads) (now triples) ⌝ }
+    ensures { λ r. ⌜ Ran (ofParts shape (now (rulerows .entry)) (now (moverows .entry)) (now (shows .entry)) (now (finals .entry))) budget (now (heads .entry)) (now (triples .entry)) r (now (heads .exit)) (now (triples .exit)) ⌝ }
 {
     let size = Size {
-        symbols: o.symbols,
-        states: o.states,
+        symbols: shape.symbols,
+        states: shape.states,
     };
-    let q = o.startstate as usize;
-    let g = o.startsymbol as usize;
+    let q = shape.startstate as usize;
+    let g = shape.startsymbol as usize;
     start(heads, triples, size, q, g);
-    let tg = steps::class_steps(moverows, shows, o.moves, o.symbols as usize);
+    let tg = steps::class_steps(moverows, shows, shape.moves, shape.symbols as usize);
     let sy = symbols();
     let mut us = [0u64; 384];
     let mut first = [0u64; 4];
-    sort_rules(rulerows, o.rules, &mut us, &mut first);
+    sort_rules(rulerows, shape.rules, &mut us, &mut first);
     let second = collect(&us, 64, 1u64 << (g as u64), [0u64; 4]);
     let fins = final_states(finals);
     let mut e = [0u64; 32];
@@ -90,7 +90,7 @@ fn run<'a>(
 pub fn decide(m: Model, budget: u32, heads: &mut [u16], triples: &mut [u16]) -> Decision
     ensures { λ r. ⌜ Decided m budget (now (heads .entry)) (now (triples .entry)) r (now (heads .exit)) (now (triples .exit)) ⌝ }
 {
-    let o = Outline {
+    let shape = Shape {
         symbols: m.symbols,
         states: m.states,
         events: m.events,
@@ -99,7 +99,7 @@ pub fn decide(m: Model, budget: u32, heads: &mut [u16], triples: &mut [u16]) -> 
         rules: m.rules,
         moves: m.moves,
     };
-    if !model::parts_valid(o, &m.rulerows, &m.moverows) {
+    if !model::parts_valid(shape, &m.rulerows, &m.moverows) {
         return Decision::Invalid;
     }
     let size = Size {
@@ -110,7 +110,7 @@ pub fn decide(m: Model, budget: u32, heads: &mut [u16], triples: &mut [u16]) -> 
         return Decision::Short;
     }
     run(
-        o,
+        shape,
         &m.rulerows,
         &m.moverows,
         &m.shows,

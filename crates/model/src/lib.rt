@@ -17,7 +17,7 @@ pub struct Model {
 }
 
 // What a record says beside its arrays.
-pub struct Outline {
+pub struct Shape {
     pub symbols: u8,
     pub states: u8,
     pub events: u8,

@@ -5,7 +5,7 @@ ghost use Prim.Native.Nat.{_≤_};
 ghost use Rattle.product.specs.Lists.{all, upTo};
 ghost use Rattle.model.specs.Valid.{within, sizesIn, ruleRowIn, moveRowIn, ofParts, valid};
 use crate::Model;
-use crate::Outline;
+use crate::Shape;
 use crate::rows::move_in;
 use crate::rows::rule_in;
 
@@ -61,29 +61,30 @@ fn moves_in(moverows: &[u8; 384], states: u8, events: u8, count: usize) -> bool
 
 // A record of these parts is valid, whatever its events and final states; if not, it is refusal 6. Its rows are lent, so that none is copied. The
 // counts come first, so that the rows of rules and moves are there.
-pub fn parts_valid<'a>(o: Outline, rulerows: &'a [u8; 1024], moverows: &'a [u8; 384]) -> bool
-    ensures { λ b. ⌜ b ≡ valid (ofParts o (now (rulerows .entry)) (now (moverows .entry)) [] []) ⌝ }
+pub fn parts_valid<'a>(shape: Shape, rulerows: &'a [u8; 1024], moverows: &'a [u8; 384]) -> bool
+    ensures { λ b. ⌜ b ≡ valid (ofParts shape (now (rulerows .entry)) (now (moverows .entry)) [] []) ⌝ }
 {
-    let symbols = o.symbols as usize;
-    let states = o.states as usize;
-    let events = o.events as usize;
-    if !sizes_in(symbols, states, events, o.rules, o.moves) {
+    let symbols = shape.symbols as usize;
+    let states = shape.states as usize;
+    let events = shape.events as usize;
+    if !sizes_in(symbols, states, events, shape.rules, shape.moves) {
         return false;
     }
-    if o.states <= o.startstate {
+    if shape.states <= shape.startstate {
         return false;
     }
-    if o.symbols <= o.startsymbol {
+    if shape.symbols <= shape.startsymbol {
         return false;
     }
-    rules_in(rulerows, o.symbols, o.rules) && moves_in(moverows, o.states, o.events, o.moves)
+    rules_in(rulerows, shape.symbols, shape.rules)
+        && moves_in(moverows, shape.states, shape.events, shape.moves)
 }
 
 // The record is valid.
 pub fn is_valid(m: Model) -> bool
     ensures { λ b. ⌜ b ≡ valid m ⌝ }
 {
-    let o = Outline {
+    let shape = Shape {
         symbols: m.symbols,
         states: m.states,
         events: m.events,
@@ -92,5 +93,5 @@ pub fn is_valid(m: Model) -> bool
         rules: m.rules,
         moves: m.moves,
     };
-    parts_valid(o, &m.rulerows, &m.moverows)
+    parts_valid(shape, &m.rulerows, &m.moverows)
 }

@@ -35,7 +35,7 @@ shl-collect : tie.Need-shl-collect
 shl-collect c = omega (arith, g-in _ (c .before .before .before .before .before .before .before .before .before .before .before .before .before .before .before .before .before .before .pre .valid-model))
 
 collect-requires : tie.Need-collect-requires
-collect-requires c κs = let s = c .before .before .before .before .before .before .before .before .before .before .before .before .before .before .before .before .before .before in (omega arith, (one-low (s .args .o .startsymbol) (g-in _ (s .pre .valid-model)), refl))
+collect-requires c κs = let s = c .before .before .before .before .before .before .before .before .before .before .before .before .before .before .before .before .before .before in (omega arith, (one-low (s .args .shape .startsymbol) (g-in _ (s .pre .valid-model)), refl))
 
 final-states-requires : tie.Need-final-states-requires
 final-states-requires c κs = search needs
@@ -52,27 +52,27 @@ array-write-hd c = g-in _ (c .before .before .before .before .before .before .be
 run-requires : tie.Need-run-requires
 run-requires c κs =
     let s = c .before .before .before .before .before .before .before .before .before .before .before .before .before .before .before .before .before .before .before .before .before .before .before .before .before .before .before in
-    let m = ofParts (s .args .o) (s .args .rulerows .now) (s .args .moverows .now) (s .args .shows .now) (s .args .finals .now) in
+    let m = ofParts (s .args .shape) (s .args .rulerows .now) (s .args .moverows .now) (s .args .shows .now) (s .args .finals .now) in
     (productOf m, starts m (s .pre .valid-model) (s .pre) (c .before .before .before .before .before .before .before .before .before .before .before .before .before .before .before .before .before .before .before .before .start .ensures) (c .before .before .before .before .before .before .before .before .before .before .sort-rules .ensures .uses) (c .before .before .before .before .before .before .before .before .before .before .sort-rules .ensures .exits) (c .before .before .before .before .before .before .before .before .collect .ensures) (c .before .before .before .before .before .before .before .before .before .before .before .before .before .symbols .ensures) (c .before .before .before .before .before .before .before .before .before .before .before .before .before .before .class-steps .ensures) (c .before .before .before .before .before .before .before .final-states .ensures))
 
 same-length : tie.Need-same-length
 same-length c =
     let s = c .before .before .before .before .before .before .before .before .before .before .before .before .before .before .before .before .before .before .before .before .before .before .before .before .before .before .before .before .before .before .before .before in
-    let m = ofParts (s .args .o) (s .args .rulerows .now) (s .args .moverows .now) (s .args .shows .now) (s .args .finals .now) in
+    let m = ofParts (s .args .shape) (s .args .rulerows .now) (s .args .moverows .now) (s .args .shows .now) (s .args .finals .now) in
     (c .before .before .before .before .run .ensures (productOf m) (starts m (s .pre .valid-model) (s .pre) (c .before .before .before .before .before .before .before .before .before .before .before .before .before .before .before .before .before .before .before .before .before .before .before .before .before .start .ensures) (c .before .before .before .before .before .before .before .before .before .before .before .before .before .before .before .sort-rules .ensures .uses) (c .before .before .before .before .before .before .before .before .before .before .before .before .before .before .before .sort-rules .ensures .exits) (c .before .before .before .before .before .before .before .before .before .before .before .before .before .collect .ensures) (c .before .before .before .before .before .before .before .before .before .before .before .before .before .before .before .before .before .before .symbols .ensures) (c .before .before .before .before .before .before .before .before .before .before .before .before .before .before .before .before .before .before .before .class-steps .ensures) (c .before .before .before .before .before .before .before .before .before .before .before .before .final-states .ensures))) .heads-kept .as-long
     ∙ heads-as-long m (s .pre .valid-model) (s .pre) (c .before .before .before .before .before .before .before .before .before .before .before .before .before .before .before .before .before .before .before .before .before .before .before .before .before .start .ensures)
 
 same-length-2 : tie.Need-same-length-2
 same-length-2 c =
     let s = c .before .before .before .before .before .before .before .before .before .before .before .before .before .before .before .before .before .before .before .before .before .before .before .before .before .before .before .before .before .before .before .before in
-    let m = ofParts (s .args .o) (s .args .rulerows .now) (s .args .moverows .now) (s .args .shows .now) (s .args .finals .now) in
+    let m = ofParts (s .args .shape) (s .args .rulerows .now) (s .args .moverows .now) (s .args .shows .now) (s .args .finals .now) in
     (c .before .before .before .before .run .ensures (productOf m) (starts m (s .pre .valid-model) (s .pre) (c .before .before .before .before .before .before .before .before .before .before .before .before .before .before .before .before .before .before .before .before .before .before .before .before .before .start .ensures) (c .before .before .before .before .before .before .before .before .before .before .before .before .before .before .before .sort-rules .ensures .uses) (c .before .before .before .before .before .before .before .before .before .before .before .before .before .before .before .sort-rules .ensures .exits) (c .before .before .before .before .before .before .before .before .before .before .before .before .before .collect .ensures) (c .before .before .before .before .before .before .before .before .before .before .before .before .before .before .before .before .before .before .symbols .ensures) (c .before .before .before .before .before .before .before .before .before .before .before .before .before .before .before .before .before .before .before .class-steps .ensures) (c .before .before .before .before .before .before .before .before .before .before .before .before .final-states .ensures))) .triples-kept .as-long
     ∙ triples-as-long m (s .pre .valid-model) (s .pre) (c .before .before .before .before .before .before .before .before .before .before .before .before .before .before .before .before .before .before .before .before .before .before .before .before .before .start .ensures)
 
 returns : tie.Need-returns
 returns c =
     let s = c .before .before .before .before .before .before .before .before .before .before .before .before .before .before .before .before .before .before .before .before .before .before .before .before .before .before .before .before .before .before .before .before in
-    let m = ofParts (s .args .o) (s .args .rulerows .now) (s .args .moverows .now) (s .args .shows .now) (s .args .finals .now) in
+    let m = ofParts (s .args .shape) (s .args .rulerows .now) (s .args .moverows .now) (s .args .shows .now) (s .args .finals .now) in
     ran m (s .pre .valid-model) (s .pre) (c .before .before .before .before .before .before .before .before .before .before .before .before .before .before .before .before .before .before .before .before .before .before .before .before .before .start .ensures) (c .before .before .before .before .before .before .before .before .before .before .before .before .before .before .before .sort-rules .ensures .uses) (c .before .before .before .before .before .before .before .before .before .before .before .before .before .before .before .sort-rules .ensures .exits) (c .before .before .before .before .before .before .before .before .before .before .before .before .before .collect .ensures) (c .before .before .before .before .before .before .before .before .before .before .before .before .before .before .before .before .before .before .symbols .ensures) (c .before .before .before .before .before .before .before .before .before .before .before .before .before .before .before .before .before .before .before .class-steps .ensures) (c .before .before .before .before .before .before .before .before .before .before .before .before .final-states .ensures) (c .before .before .before .before .run .ensures)
 
 pub run-spec : {M : Type 1} → statement M

@@ -4,7 +4,7 @@ use mathlib.Core.Path.{_≡_, sym, _∙_}
 use Prim.Native.Nat.{_≤_}
 use borrow.Author.Tests.{lt-ltb, le-ltb}
 use borrow.Author.Needs.{needs}
-use Rattle.model.specs.declared.Outline.{Outline}
+use Rattle.model.specs.declared.Shape.{Shape}
 use Rattle.model.specs.Valid.{sizesIn, valid}
 use Rattle.model.proofs.Counted.{passed, failed}
 use Rattle.model.proofs.Valid.{few-rows}
@@ -12,7 +12,7 @@ use Rattle.model.proofs.range.parts_valid.Statement.{statement}
 use Rattle.model.proofs.range.parts_valid.Tie as tie
 
 -- the rows that the loops read are there
-few : (o : Outline) {b : Bool} → b ≡ sizesIn (o .symbols) (o .states) (o .events) (o .rules) (o .moves) → not b ≡ false → (o .rules ≤ 256) × (o .moves ≤ 128)
+few : (o : Shape) {b : Bool} → b ≡ sizesIn (o .symbols) (o .states) (o .events) (o .rules) (o .moves) → not b ≡ false → (o .rules ≤ 256) × (o .moves ≤ 128)
 few o e n = few-rows (o .symbols) (o .states) (o .events) (o .rules) (o .moves) (passed e n)
 
 cast-symbols : tie.Need-cast-symbols
@@ -40,10 +40,10 @@ unfolding valid
 returns-3 c = rw (passed (c .before .before .before .before .before .sizes-in .ensures) (c .before .before .before .before .if1 .left), lt-ltb _ _ (c .before .before .if2 .left), le-ltb _ _ (c .if3 .taken))
 
 rules-in-requires : tie.Need-rules-in-requires
-rules-in-requires c κs = few (c .before .before .before .before .before .before .before .before .before .args .o) (c .before .before .before .before .before .sizes-in .ensures) (c .before .before .before .before .if1 .left) .0
+rules-in-requires c κs = few (c .before .before .before .before .before .before .before .before .before .args .shape) (c .before .before .before .before .before .sizes-in .ensures) (c .before .before .before .before .if1 .left) .0
 
 moves-in-requires : tie.Need-moves-in-requires
-moves-in-requires c κs = few (c .before .before .before .before .before .before .before .before .before .before .before .args .o) (c .before .before .before .before .before .before .before .sizes-in .ensures) (c .before .before .before .before .before .before .if1 .left) .1
+moves-in-requires c κs = few (c .before .before .before .before .before .before .before .before .before .before .before .args .shape) (c .before .before .before .before .before .before .before .sizes-in .ensures) (c .before .before .before .before .before .before .if1 .left) .1
 
 returns-4 : tie.Need-returns-4
 unfolding valid
