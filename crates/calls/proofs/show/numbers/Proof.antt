@@ -1,20 +1,27 @@
--- `calls::show::row` meets its contract. Assumes nothing.
+-- `calls::show::numbers` meets its contract. Assumes nothing.
 use Prim.Native.Nat.{_≤_, _-_}
+use lib.ListN.{length}
 use borrow.Author.Needs.{needs}
-use Rattle.calls.proofs.show.row.Statement.{statement}
-use Rattle.calls.proofs.show.row.Tie as tie
+use Rattle.calls.proofs.show.numbers.Statement.{statement}
+use Rattle.calls.proofs.show.numbers.Tie as tie
 
 abbrev Inv-loop : tie.InvT-loop
-Inv-loop name bytes numbers truths n i₀ t7 i = (i ≤ n)
+Inv-loop s n x k₀ i₀ k i = (i ≤ length s)
 
 abbrev μ-loop : tie.MeasureT-loop
-μ-loop name bytes numbers truths n i₀ t7 i = n - i
-
-word-requires : tie.Need-word-requires Inv-loop μ-loop
-word-requires c κs = search needs
+μ-loop s n x k₀ i₀ k i = length s - i
 
 loop-holds : tie.Need-loop-holds Inv-loop μ-loop
 loop-holds c = search needs
+
+mul-wide : tie.Need-mul-wide Inv-loop μ-loop
+mul-wide c = search needs
+
+shared-slice-read-wide : tie.Need-shared-slice-read-wide Inv-loop μ-loop
+shared-slice-read-wide c = search needs
+
+wide-requires : tie.Need-wide-requires Inv-loop μ-loop
+wide-requires c κs = search needs
 
 cell-requires : tie.Need-cell-requires Inv-loop μ-loop
 cell-requires c κs = search needs
@@ -28,27 +35,21 @@ loop-less c = search needs
 loop-again : tie.Need-loop-again Inv-loop μ-loop
 loop-again c = search needs
 
-slice-aggregate-word : tie.Need-slice-aggregate-word Inv-loop μ-loop
-slice-aggregate-word c = search needs
-
-word-requires-2 : tie.Need-word-requires-2 Inv-loop μ-loop
-word-requires-2 c κs = search needs
-
 returns : tie.Need-returns Inv-loop μ-loop
 returns c = search needs
 
-pub row-spec : {M : Type 1} → statement M
-row-spec =
+pub numbers-spec : {M : Type 1} → statement M
+numbers-spec =
     tie.close
     (tie.spec
     Inv-loop
     μ-loop
-    word-requires
     loop-holds
+    mul-wide
+    shared-slice-read-wide
+    wide-requires
     cell-requires
     add-i
     loop-less
     loop-again
-    slice-aggregate-word
-    word-requires-2
     returns)
