@@ -33,21 +33,20 @@ fn show_table<'a>(size: Size, heads: &'a [u16], triples: &'a [u16]) {
     show::line(b"\nsevens", h, t);
 }
 
-fn decided(m: Model, budget: u32, heads: &mut [u16], triples: &mut [u16]) {
+// What the decision left, and the check of it.
+fn settled<'a>(m: Model, heads: &'a [u16], triples: &'a [u16]) {
     let size = Size {
         symbols: m.symbols,
         states: m.states,
     };
-    let d = decide::decide(m, budget, heads, triples);
-    answers::show(answers::of_decision(d));
     show_table(size, heads, triples);
+    check(m, heads, triples);
 }
 
-// The decision between two checks.
-fn call_all(m: Model, budget: u32, heads: &mut [u16], triples: &mut [u16]) {
-    check(m, heads, triples);
-    decided(m, budget, heads, triples);
-    check(m, heads, triples);
+fn decided(m: Model, budget: u32, heads: &mut [u16], triples: &mut [u16]) {
+    let d = decide::decide(m, budget, heads, triples);
+    answers::show(answers::of_decision(d));
+    settled(m, heads, triples);
 }
 
 // How many steps were stored.
@@ -71,6 +70,7 @@ fn show_replay(r: Replayed, stack: &[u8]) {
 
 // The first k steps are those that were stored.
 fn replayed(m: Model, steps: &[u16], k: usize, stack: &mut [u8]) {
+    show_steps(steps);
     if k <= steps.len() {
         let r = replay::replay_steps(m, &steps[..k], stack);
         show_replay(r, stack);
@@ -89,7 +89,6 @@ fn traced(
     let t = trace::trace(m, budget, heads, triples, steps);
     let said = answers::of_trace(t);
     answers::show(said);
-    show_steps(steps);
     replayed(m, steps, stored(said), stack);
 }
 
@@ -103,16 +102,17 @@ fn kept(short: u32, which: u32, n: usize) -> usize
     n
 }
 
-// The decision, in arrays full of other numbers.
+// The decision between two checks, in arrays full of other numbers.
 fn call_decision(m: Model, budget: u32, short: u32) {
     let mut heads = [7u16; 260];
     let mut triples = [7u16; 2060];
     let h = kept(short, 1, 260);
     let t = kept(short, 2, 2060);
-    call_all(m, budget, &mut heads[..h], &mut triples[..t]);
+    check(m, &heads[..h], &triples[..t]);
+    decided(m, budget, &mut heads[..h], &mut triples[..t]);
 }
 
-// The trace and its replay, likewise.
+// The trace and its replay, in such arrays too.
 fn call_trace(m: Model, budget: u32, room: usize, short: u32) {
     if 8200 < room {
         return;
@@ -167,12 +167,12 @@ fn next(s: &[u8]) -> usize {
     let given = numbers.at;
     let k = whole(given[0]);
     let b = e + 1;
-    let rest = &s[b..];
-    if rest.len() < k {
+    if s.len() - b < k {
         return 0;
     }
-    answer(&rest[..k], numbers);
-    b + k
+    let after = b + k;
+    answer(&s[b..after], numbers);
+    after
 }
 
 fn call_each(all: &[u8]) {

@@ -12,20 +12,35 @@ kept-requires c κs = tt
 kept-requires-2 : tie.Need-kept-requires-2
 kept-requires-2 c κs = tt
 
+array-share-prefix-heads : tie.Need-array-share-prefix-heads
+array-share-prefix-heads c = search needs
+
+slice-aggregate-check : tie.Need-slice-aggregate-check
+slice-aggregate-check c = sym (length-take-le _ _ (omega arith))
+
+array-share-prefix-triples : tie.Need-array-share-prefix-triples
+array-share-prefix-triples c = search needs
+
+slice-aggregate-check-2 : tie.Need-slice-aggregate-check-2
+slice-aggregate-check-2 c = sym (length-take-le _ _ (omega arith))
+
+check-requires : tie.Need-check-requires
+check-requires c κs = tt
+
 array-borrow-prefix-heads : tie.Need-array-borrow-prefix-heads
 array-borrow-prefix-heads c = search needs
 
-slice-aggregate-call-all : tie.Need-slice-aggregate-call-all
-slice-aggregate-call-all c = sym (length-take-le _ _ (omega arith))
+slice-aggregate-decided : tie.Need-slice-aggregate-decided
+slice-aggregate-decided c = sym (length-take-le _ _ (omega arith))
 
 array-borrow-prefix-triples : tie.Need-array-borrow-prefix-triples
 array-borrow-prefix-triples c = search needs
 
-slice-aggregate-call-all-2 : tie.Need-slice-aggregate-call-all-2
-slice-aggregate-call-all-2 c = sym (length-take-le _ _ (omega arith))
+slice-aggregate-decided-2 : tie.Need-slice-aggregate-decided-2
+slice-aggregate-decided-2 c = sym (length-take-le _ _ (omega arith))
 
-call-all-requires : tie.Need-call-all-requires
-call-all-requires c κs = tt
+decided-requires : tie.Need-decided-requires
+decided-requires c κs = tt
 
 returns : tie.Need-returns
 returns c = tt
@@ -36,9 +51,14 @@ call-decision-spec =
     (tie.spec
     kept-requires
     kept-requires-2
+    array-share-prefix-heads
+    slice-aggregate-check
+    array-share-prefix-triples
+    slice-aggregate-check-2
+    check-requires
     array-borrow-prefix-heads
-    slice-aggregate-call-all
+    slice-aggregate-decided
     array-borrow-prefix-triples
-    slice-aggregate-call-all-2
-    call-all-requires
+    slice-aggregate-decided-2
+    decided-requires
     returns)

@@ -6,6 +6,9 @@ use borrow.Author.Needs.{needs}
 use Rattle.calls.proofs.replayed.Statement.{statement}
 use Rattle.calls.proofs.replayed.Tie as tie
 
+show-steps-requires : tie.Need-show-steps-requires
+show-steps-requires c κs = tt
+
 slice-aggregate-replay-steps : tie.Need-slice-aggregate-replay-steps
 slice-aggregate-replay-steps c = sym (length-take-le _ _ (omega arith))
 
@@ -28,6 +31,7 @@ pub replayed-spec : {M : Type 1} → statement M
 replayed-spec =
     tie.close
     (tie.spec
+    show-steps-requires
     slice-aggregate-replay-steps
     replay-steps-requires
     show-replay-requires
