@@ -189,8 +189,12 @@ fn call_each(all: &[u8]) {
     }
 }
 
+fn run(space: &mut [u8]) {
+    let n = io::read_full(STDIN_FILENO, space);
+    call_each(&space[0..n]);
+}
+
 fn main() {
     let mut space = [0u8; 262144];
-    let n = io::read_full(STDIN_FILENO, &mut space);
-    call_each(&space[..n]);
+    run(&mut space);
 }
