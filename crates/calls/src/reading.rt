@@ -1,9 +1,8 @@
 // How the reading of a model text ends, and the whole record of an accepted one.
 use crate::answers;
-use crate::answers::ACCEPTED;
-use crate::show;
 use model::Model;
 use reader::ModelRead;
+use show::ACCEPTED;
 
 fn sizes(m: Model) {
     show::word(b"accepted");
@@ -53,5 +52,5 @@ pub fn show_reading(read: ModelRead) {
         accepted(read.model);
         return;
     }
-    answers::show(said);
+    show::say(said);
 }
