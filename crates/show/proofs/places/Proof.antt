@@ -1,23 +1,24 @@
--- `calls::show::filled` meets its contract. Assumes nothing.
+-- `show::places` meets its contract. Assumes nothing.
 use Prim.Native.Nat.{_≤_, _-_}
+use lib.ListN.{length}
 use borrow.Author.Needs.{needs}
-use Rattle.calls.proofs.show.filled.Statement.{statement}
-use Rattle.calls.proofs.show.filled.Tie as tie
+use Rattle.show.proofs.places.Statement.{statement}
+use Rattle.show.proofs.places.Tie as tie
 
 abbrev Inv-loop : tie.InvT-loop
-Inv-loop bytes numbers n x k₀ i₀ k i = (i ≤ n)
+Inv-loop s i₀ i = (i ≤ length s)
 
 abbrev μ-loop : tie.MeasureT-loop
-μ-loop bytes numbers n x k₀ i₀ k i = n - i
+μ-loop s i₀ i = length s - i
 
 loop-holds : tie.Need-loop-holds Inv-loop μ-loop
 loop-holds c = search needs
 
-is-requires : tie.Need-is-requires Inv-loop μ-loop
-is-requires c κs = search needs
+shared-slice-read-if1 : tie.Need-shared-slice-read-if1 Inv-loop μ-loop
+shared-slice-read-if1 c = search needs
 
-wrapping-add-u64-requires : tie.Need-wrapping-add-u64-requires Inv-loop μ-loop
-wrapping-add-u64-requires c κs = search needs
+field-requires : tie.Need-field-requires Inv-loop μ-loop
+field-requires c κs = search needs
 
 add-i : tie.Need-add-i Inv-loop μ-loop
 add-i c = search needs
@@ -31,15 +32,15 @@ loop-again c = search needs
 returns : tie.Need-returns Inv-loop μ-loop
 returns c = search needs
 
-pub filled-spec : {M : Type 1} → statement M
-filled-spec =
+pub places-spec : {M : Type 1} → statement M
+places-spec =
     tie.close
     (tie.spec
     Inv-loop
     μ-loop
     loop-holds
-    is-requires
-    wrapping-add-u64-requires
+    shared-slice-read-if1
+    field-requires
     add-i
     loop-less
     loop-again

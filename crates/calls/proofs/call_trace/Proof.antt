@@ -1,10 +1,10 @@
--- `calls::with_arrays` meets its contract. Assumes nothing.
+-- `calls::call_trace` meets its contract. Assumes nothing.
 use mathlib.Core.Path.{sym}
 use lib.Seq.{length-take-le}
 use native.Mathlib.Omega.{arith}
 use borrow.Author.Needs.{needs}
-use Rattle.calls.proofs.with_arrays.Statement.{statement}
-use Rattle.calls.proofs.with_arrays.Tie as tie
+use Rattle.calls.proofs.call_trace.Statement.{statement}
+use Rattle.calls.proofs.call_trace.Tie as tie
 
 returns : tie.Need-returns
 returns c = tt
@@ -21,35 +21,35 @@ kept-requires-3 c κs = tt
 array-borrow-prefix-heads : tie.Need-array-borrow-prefix-heads
 array-borrow-prefix-heads c = search needs
 
-slice-aggregate-call-both : tie.Need-slice-aggregate-call-both
-slice-aggregate-call-both c = sym (length-take-le _ _ (omega arith))
+slice-aggregate-traced : tie.Need-slice-aggregate-traced
+slice-aggregate-traced c = sym (length-take-le _ _ (omega arith))
 
 array-borrow-prefix-triples : tie.Need-array-borrow-prefix-triples
 array-borrow-prefix-triples c = search needs
 
-slice-aggregate-call-both-2 : tie.Need-slice-aggregate-call-both-2
-slice-aggregate-call-both-2 c = sym (length-take-le _ _ (omega arith))
+slice-aggregate-traced-2 : tie.Need-slice-aggregate-traced-2
+slice-aggregate-traced-2 c = sym (length-take-le _ _ (omega arith))
 
 array-borrow-prefix-steps : tie.Need-array-borrow-prefix-steps
 array-borrow-prefix-steps c = search needs
 
-slice-aggregate-call-both-3 : tie.Need-slice-aggregate-call-both-3
-slice-aggregate-call-both-3 c = sym (length-take-le _ _ (omega arith))
+slice-aggregate-traced-3 : tie.Need-slice-aggregate-traced-3
+slice-aggregate-traced-3 c = sym (length-take-le _ _ (omega arith))
 
 array-borrow-prefix-stack : tie.Need-array-borrow-prefix-stack
 array-borrow-prefix-stack c = search needs
 
-slice-aggregate-call-both-4 : tie.Need-slice-aggregate-call-both-4
-slice-aggregate-call-both-4 c = sym (length-take-le _ _ (omega arith))
+slice-aggregate-traced-4 : tie.Need-slice-aggregate-traced-4
+slice-aggregate-traced-4 c = sym (length-take-le _ _ (omega arith))
 
-call-both-requires : tie.Need-call-both-requires
-call-both-requires c κs = tt
+traced-requires : tie.Need-traced-requires
+traced-requires c κs = tt
 
 returns-2 : tie.Need-returns-2
 returns-2 c = tt
 
-pub with-arrays-spec : {M : Type 1} → statement M
-with-arrays-spec =
+pub call-trace-spec : {M : Type 1} → statement M
+call-trace-spec =
     tie.close
     (tie.spec
     returns
@@ -57,12 +57,12 @@ with-arrays-spec =
     kept-requires-2
     kept-requires-3
     array-borrow-prefix-heads
-    slice-aggregate-call-both
+    slice-aggregate-traced
     array-borrow-prefix-triples
-    slice-aggregate-call-both-2
+    slice-aggregate-traced-2
     array-borrow-prefix-steps
-    slice-aggregate-call-both-3
+    slice-aggregate-traced-3
     array-borrow-prefix-stack
-    slice-aggregate-call-both-4
-    call-both-requires
+    slice-aggregate-traced-4
+    traced-requires
     returns-2)

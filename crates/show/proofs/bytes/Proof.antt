@@ -1,20 +1,24 @@
--- `calls::show::row` meets its contract. Assumes nothing.
+-- `show::bytes` meets its contract. Assumes nothing.
 use Prim.Native.Nat.{_≤_, _-_}
+use lib.ListN.{length}
 use borrow.Author.Needs.{needs}
-use Rattle.calls.proofs.show.row.Statement.{statement}
-use Rattle.calls.proofs.show.row.Tie as tie
+use Rattle.show.proofs.bytes.Statement.{statement}
+use Rattle.show.proofs.bytes.Tie as tie
 
 abbrev Inv-loop : tie.InvT-loop
-Inv-loop name bytes numbers truths n i₀ t7 i = (i ≤ n)
+Inv-loop s n x k₀ i₀ k i = (i ≤ length s)
 
 abbrev μ-loop : tie.MeasureT-loop
-μ-loop name bytes numbers truths n i₀ t7 i = n - i
-
-word-requires : tie.Need-word-requires Inv-loop μ-loop
-word-requires c κs = search needs
+μ-loop s n x k₀ i₀ k i = length s - i
 
 loop-holds : tie.Need-loop-holds Inv-loop μ-loop
 loop-holds c = search needs
+
+shared-slice-read-byte : tie.Need-shared-slice-read-byte Inv-loop μ-loop
+shared-slice-read-byte c = search needs
+
+byte-requires : tie.Need-byte-requires Inv-loop μ-loop
+byte-requires c κs = search needs
 
 cell-requires : tie.Need-cell-requires Inv-loop μ-loop
 cell-requires c κs = search needs
@@ -28,27 +32,20 @@ loop-less c = search needs
 loop-again : tie.Need-loop-again Inv-loop μ-loop
 loop-again c = search needs
 
-slice-aggregate-word : tie.Need-slice-aggregate-word Inv-loop μ-loop
-slice-aggregate-word c = search needs
-
-word-requires-2 : tie.Need-word-requires-2 Inv-loop μ-loop
-word-requires-2 c κs = search needs
-
 returns : tie.Need-returns Inv-loop μ-loop
 returns c = search needs
 
-pub row-spec : {M : Type 1} → statement M
-row-spec =
+pub bytes-spec : {M : Type 1} → statement M
+bytes-spec =
     tie.close
     (tie.spec
     Inv-loop
     μ-loop
-    word-requires
     loop-holds
+    shared-slice-read-byte
+    byte-requires
     cell-requires
     add-i
     loop-less
     loop-again
-    slice-aggregate-word
-    word-requires-2
     returns)
