@@ -111,13 +111,13 @@ fn call_decision(m: Model, budget: u32, short: u32) {
     decided(m, budget, &mut heads[..h], &mut triples[..t]);
 }
 
-// The trace and its replay, in such arrays too.
+// The trace and its replay, in arrays that hold every fact at rank 0 beforehand.
 fn call_trace(m: Model, budget: u32, room: usize, short: u32) {
     if 8200 < room {
         return;
     }
-    let mut heads = [7u16; 260];
-    let mut triples = [7u16; 2060];
+    let mut heads = [0u16; 260];
+    let mut triples = [0u16; 2060];
     let mut steps = [9u16; 8200];
     let mut stack = [5u8; 8300];
     let h = kept(short, 1, 260);
