@@ -20,7 +20,7 @@ SameSymbols n sy = (c : ℕ) → c < n → getD sy c 0 ≡ c
 abbrev pub rowRule : List ℕ → ℕ → Rule
 rowRule rs r = ruleBy (kindAt rs r) (classAt rs r % 32) (overAt rs r) (underAt rs r)
 
--- rule r was put into the sets of what it needs, and nothing else; and the first n rules
+-- rule r was put into the sets of what it needs, and no other rule into any; and the first n rules
 pub record UsesPut (rs : List ℕ) (r : ℕ) (us us′ : List ℕ) : Type 0 where
   pub long : length us′ ≡ 384
   pub there : UsesOf us′ r (rowRule rs r)

@@ -27,7 +27,7 @@ pub record With (w : List ℕ) (c : ℕ) (w′ : List ℕ) : Type 0 where
 abbrev pub weight : List ℕ → ℕ
 weight w = getD w 0 0 + getD w 1 0 + getD w 2 0 + getD w 3 0
 
--- r is a member and w′ the set without it, or r is 256 and there is none
+-- r is a member and w′ the set without it, or r is not below 256 and there is none
 pub record Picked (w : List ℕ) (r : ℕ) (w′ : List ℕ) : Type 0 where
   pub long : length w′ ≡ 4
   pub there : r < 256 → T (chosen w r)

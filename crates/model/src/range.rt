@@ -59,8 +59,8 @@ fn moves_in(moverows: &[u8; 384], states: u8, events: u8, count: usize) -> bool
     true
 }
 
-// A record of these parts is valid, whatever its events and final states; if not, it is refusal 6. Its rows are lent, so that none is copied. The
-// counts come first, so that the rows of rules and moves are there.
+// A record of these parts is valid, whatever its symbols show and whichever of its states are final; if not, it is refusal 6. Its rows are lent,
+// so that none is copied. The counts come first, so that the rows of rules and moves are there.
 pub fn parts_valid<'a>(shape: Shape, rulerows: &'a [u8; 1024], moverows: &'a [u8; 384]) -> bool
     ensures { λ b. ⌜ b ≡ valid (ofParts shape (now (rulerows .entry)) (now (moverows .entry)) [] []) ⌝ }
 {
