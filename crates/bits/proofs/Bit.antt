@@ -91,6 +91,14 @@ bit-lower hi lo k i h l = sym (bit-low (hi * 2 ^ k + lo) k i l) ∙ ap (λ n. bi
 pub bit-upper : (hi lo k i : ℕ) → lo < 2 ^ k → bit (hi * 2 ^ k + lo) (i + k) ≡ bit hi i
 bit-upper hi lo k i h = sym (bit-shr (hi * 2 ^ k + lo) k i) ∙ ap (λ n. bit n i) (high hi k h)
 
+-- a shift up, in a word of n bits
+pub bit-shl : (x n k i : ℕ) → i + k < n → bit ((x * 2 ^ k) % 2 ^ n) (i + k) ≡ bit x i
+bit-shl x n k i h = bit-low (x * 2 ^ k) n (i + k) h ∙ ap (λ m. bit m (i + k)) (sym (add-zero (x * 2 ^ k))) ∙ bit-upper x 0 k i (pow-pos k)
+
+pub bit-shl-below : (x n k i : ℕ) → k ≤ n → i < k → bit ((x * 2 ^ k) % 2 ^ n) i ≡ false
+bit-shl-below x n k i h l =
+    bit-low (x * 2 ^ k) n i (omega arith) ∙ ap (λ m. bit m i) (sym (add-zero (x * 2 ^ k))) ∙ bit-lower x 0 k i (pow-pos k) l ∙ bit-zero i
+
 -- all ones
 pub bit-ones : (k i : ℕ) → i < k → bit (2 ^ k - 1) i ≡ true
 unfolding bit

@@ -1,5 +1,5 @@
 -- The boolean product of two matrices, as it is computed: column by column of one against row by row of the other. Assumes nothing.
-use mathlib.Core.Bool.{false, _&&_, _||_}
+use mathlib.Core.Bool.{Bool, true, false, _&&_, _||_}
 use mathlib.Core.Path.{_≡_, refl, sym, ap, ap₂, _∙_, subst}
 use Prim.Native.Nat.{ℕ, zero, suc, _+_, _*_, _/_, _%_, _^_, _<_}
 use native.Mathlib.Nat.{mod-lt, add-mul, mul-right-comm, mul-le-mul, lt-of-le-of-lt, zero-add, zero-mul, one-mul, suc-mul, div-add-mod', div-lt-iff-lt-mul}
@@ -114,16 +114,27 @@ summed-is a b = bit-ext 64 (summed a b 8) (multiplied a b) (summed-lt a b 8) (pr
         (let q : i / 8 < 8 = div-lt-iff-lt-mul {k = 8} {y = 8} (lit< tt) .1 h in let x : i % 8 < 8 = mod-lt i {m = 8} (lit< tt) in
         summed-at a b 8 (i / 8) (i % 8) q x ∙ sym (multiplied-at a b (i / 8) (i % 8) q x))
 
--- nothing, and then anything
-pub multiplied-none : (b : ℕ) → multiplied 0 b ≡ 0
-multiplied-none b = bit-ext 64 (multiplied 0 b) 0 (product-lt 0 b) (lit< tt) same
-  where
-    none : (n q x : ℕ) → some n (λ p. entry 0 q p && entry b p x) ≡ false
-    none zero q x = refl
-    none (suc n) q x = rw (none n q x, bit-zero (q * 8 + n))
+-- a product with nothing is nothing
+module _ (a b : ℕ) (apart : (q k x : ℕ) → entry a q k && entry b k x ≡ false) where
+  none-to : (n q x : ℕ) → some n (λ k. entry a q k && entry b k x) ≡ false
+  none-to zero q x = refl
+  none-to (suc n) q x = rw (none-to n q x, apart q n x)
 
-    same : (i : ℕ) → i < 64 → bit (multiplied 0 b) i ≡ bit 0 i
-    same i h =
-        subst (λ n. bit (multiplied 0 b) n ≡ bit 0 n) (div-add-mod' i 8)
-        (let q : i / 8 < 8 = div-lt-iff-lt-mul {k = 8} {y = 8} (lit< tt) .1 h in let x : i % 8 < 8 = mod-lt i {m = 8} (lit< tt) in
-        multiplied-at 0 b (i / 8) (i % 8) q x ∙ none 8 (i / 8) (i % 8) ∙ sym (bit-zero (i / 8 * 8 + i % 8)))
+  nothing : 0 ≡ multiplied a b
+  nothing = bit-ext 64 0 (multiplied a b) (lit< tt) (product-lt a b) same
+    where
+      same : (i : ℕ) → i < 64 → bit 0 i ≡ bit (multiplied a b) i
+      same i h =
+          subst (λ n. bit 0 n ≡ bit (multiplied a b) n) (div-add-mod' i 8)
+          (let q : i / 8 < 8 = div-lt-iff-lt-mul {k = 8} {y = 8} (lit< tt) .1 h in let x : i % 8 < 8 = mod-lt i {m = 8} (lit< tt) in
+          bit-zero (i / 8 * 8 + i % 8) ∙ sym (multiplied-at a b (i / 8) (i % 8) q x ∙ none-to 8 (i / 8) (i % 8)))
+
+pub none-left : (a b : ℕ) → a ≡ 0 → 0 ≡ multiplied a b
+none-left a b e = nothing a b (λ q k x. ap (λ n. bit n (q * 8 + k) && entry b k x) e ∙ ap (λ c. c && entry b k x) (bit-zero (q * 8 + k)))
+
+pub none-right : (a b : ℕ) → b ≡ 0 → 0 ≡ multiplied a b
+none-right a b e = nothing a b (λ q k x. ap (λ n. entry a q k && bit n (k * 8 + x)) e ∙ ap (λ c. entry a q k && c) (bit-zero (k * 8 + x)) ∙ and-off (entry a q k))
+  where
+    and-off : (c : Bool) → c && false ≡ false
+    and-off true = refl
+    and-off false = refl

@@ -11,7 +11,7 @@ use mir.Syntax.{w64}
 use mir.Val.{Fits}
 use Rattle.bits.specs.Bit.{bit}
 use Rattle.bits.specs.Matrix.{entry}
-use Rattle.bits.proofs.Bit.{bit-or, bit-zero, bit-low, bit-past, bit-lower, bit-upper, bit-ones}
+use Rattle.bits.proofs.Bit.{bit-or, bit-low, bit-past, bit-lower, bit-upper, bit-shl, bit-shl-below, bit-ones}
 use Rattle.bits.proofs.Matrix.{ones, ones-8, further, outer}
 
 -- each digit of a word is w
@@ -48,19 +48,16 @@ pub column-at : (v k : ℕ) → k < 8 → entry (bitOr (seven v) ((v * 2 ^ 49) %
 column-at v k h =
     ap (bit (bitOr (seven v) ((v * 2 ^ 49) % 2 ^ 64))) (add-zero (k * 8)) ∙ bit-or (seven v) ((v * 2 ^ 49) % 2 ^ 64) (k * 8) ∙ go (decLt k 7)
   where
-    moved : bit ((v * 2 ^ 49) % 2 ^ 64) (k * 8) ≡ bit (v * 2 ^ 49 + 0) (k * 8)
-    moved = bit-low (v * 2 ^ 49) 64 (k * 8) (omega arith) ∙ ap (λ n. bit n (k * 8)) (sym (add-zero (v * 2 ^ 49)))
-
     go : Dec (k < 7) → bit (seven v) (k * 8) || bit ((v * 2 ^ 49) % 2 ^ 64) (k * 8) ≡ bit v k
     go (yes l) =
         ap₂ _||_
         (ap (bit (seven v)) {x = k * 8} {y = k * 7 + k} (omega arith) ∙ ap (λ c. bit (bitAnd v 127 * c) (k * 7 + k)) (sym ones-7)
         ∙ repeat 7 7 (bitAnd v 127) k k (mask-lt v 7) l l ∙ ap (λ n. bit n k) (and-mask v 7) ∙ bit-low v 7 k l)
-        (moved ∙ bit-lower v 0 49 (k * 8) (lit< tt) (omega arith) ∙ bit-zero (k * 8))
+        (bit-shl-below v 64 49 (k * 8) (omega arith) (omega arith))
         ∙ or-false (bit v k)
     go (no l) =
         ap₂ _||_ (bit-past (seven v) 49 (k * 8) (seven-lt v) (omega arith))
-        (moved ∙ ap (bit (v * 2 ^ 49 + 0)) {x = k * 8} {y = k + 49} (omega arith) ∙ bit-upper v 0 49 k (lit< tt))
+        (ap (bit ((v * 2 ^ 49) % 2 ^ 64)) {x = k * 8} {y = k + 49} (omega arith) ∙ bit-shl v 64 49 k (omega arith))
 
 -- rows filled from the first column
 abbrev pub filled : ℕ → ℕ

@@ -3,157 +3,92 @@
 // is only read; else also the budget, the room and which array is too short (1 heads, 2 triples, 3 the replay's stack). tests/expected.py
 // makes it, and says by the second program what is to be written.
 ghost use Prim.Native.Nat.{_≤_};
-use decide::Decision;
 use libc::STDIN_FILENO;
 use model::Model;
 use numbers::Numbers;
-use recheck::Recheck;
 use replay::Replayed;
-use show::line;
+use show::Said;
+use show::TRACE_REFUSED;
 use table::Size;
-use trace::Traced;
 
+mod answers; // each answer as a line
 mod reading; // how a reading ends
-mod show; // what is written
 
 fn whole(n: u32) -> usize {
     n as usize
 }
 
-fn show_check(r: Recheck) {
-    match r {
-        Recheck::Accepted => line(b"accepted", 0, 0),
-        Recheck::Invalid => line(b"check refused", 6, 0),
-        Recheck::Short => line(b"check refused", 7, 0),
-        Recheck::NoStart => line(b"check refused", 11, 1),
-        Recheck::Violating => line(b"check refused", 11, 2),
-        Recheck::Open(r, v) => line(b"not closed", r as u64, v as u64),
-    }
-}
-
-fn show_decision(d: Decision) {
-    match d {
-        Decision::Violation(n) => line(b"violation", n as u64, 0),
-        Decision::Safe(n) => line(b"safe", n as u64, 0),
-        Decision::Invalid => line(b"refused", 6, 0),
-        Decision::Short => line(b"refused", 7, 0),
-        Decision::Spent(b) => line(b"refused", 8, b as u64),
-    }
-}
-
-// The answer, and how many steps were stored.
-fn show_trace(t: Traced) -> usize {
-    match t {
-        Traced::Found(n, k) => {
-            line(b"trace", n as u64, k as u64);
-            k
-        }
-        Traced::Invalid => {
-            line(b"trace refused", 6, 0);
-            0
-        }
-        Traced::Short => {
-            line(b"trace refused", 7, 0);
-            0
-        }
-        Traced::Spent(b) => {
-            line(b"trace refused", 8, b as u64);
-            0
-        }
-        Traced::Safe(n) => {
-            line(b"trace refused", 9, n as u64);
-            0
-        }
-        Traced::Cut(n, room) => {
-            line(b"trace cut", n as u64, room as u64);
-            room
-        }
-    }
-}
-
-fn show_replay(r: Replayed) {
-    match r {
-        Replayed::Accepted => line(b"replayed", 0, 0),
-        Replayed::Invalid => line(b"replay refused", 6, 0),
-        Replayed::Short => line(b"replay refused", 7, 0),
-        Replayed::Bad(k) => line(b"replay refused", 12, k as u64),
-    }
-}
-
 fn check<'a>(m: Model, heads: &'a [u16], triples: &'a [u16]) {
     let r = recheck::check_table(m, heads, triples);
-    show_check(r);
+    show::say(answers::of_check(r));
+}
+
+// The table's cells, and how many of all cells are still as they were.
+fn show_table<'a>(size: Size, heads: &'a [u16], triples: &'a [u16]) {
+    show::word(b"heads");
+    let h = show::numbers(heads, table::head_count(size), 7);
+    show::word(b"\ntriples");
+    let t = show::numbers(triples, table::triple_count(size), 7);
+    show::line(b"\nsevens", h, t);
+}
+
+// What the decision left, and the check of it.
+fn settled<'a>(m: Model, heads: &'a [u16], triples: &'a [u16]) {
+    let size = Size {
+        symbols: m.symbols,
+        states: m.states,
+    };
+    show_table(size, heads, triples);
+    check(m, heads, triples);
 }
 
 fn decided(m: Model, budget: u32, heads: &mut [u16], triples: &mut [u16]) {
     let d = decide::decide(m, budget, heads, triples);
-    show_decision(d);
+    show::say(answers::of_decision(d));
+    settled(m, heads, triples);
 }
 
+// How many steps were stored.
+fn stored(s: Said) -> usize {
+    if s.0 == TRACE_REFUSED {
+        return 0;
+    }
+    s.2 as usize
+}
+
+fn show_steps(steps: &[u16]) {
+    show::word(b"steps");
+    show::numbers(steps, 12, 0);
+    show::word(b"\n");
+}
+
+fn show_replay(r: Replayed, stack: &[u8]) {
+    show::say(answers::of_replay(r));
+    show::line(b"cleared", show::bytes(stack, 0, 0), 0);
+}
+
+// The first k steps are those that were stored.
+fn replayed(m: Model, steps: &[u16], k: usize, stack: &mut [u8]) {
+    show_steps(steps);
+    if k <= steps.len() {
+        let r = replay::replay_steps(m, &steps[..k], stack);
+        show_replay(r, stack);
+    }
+}
+
+// The trace, and the replay of the steps that it stored.
 fn traced(
     m: Model,
     budget: u32,
     heads: &mut [u16],
     triples: &mut [u16],
-    room: &mut [u16],
-) -> usize {
-    let t = trace::trace(m, budget, heads, triples, room);
-    show_trace(t)
-}
-
-fn replayed(m: Model, steps: &[u16], stack: &mut [u8]) {
-    let r = replay::replay_steps(m, steps, stack);
-    show_replay(r);
-    line(b"cleared", show::bytes_filled(stack, 0), 0);
-}
-
-// The decision between two checks, in arrays full of other numbers.
-fn call_all(m: Model, budget: u32, heads: &mut [u16], triples: &mut [u16]) {
-    let size = Size {
-        symbols: m.symbols,
-        states: m.states,
-    };
-    check(m, heads, triples);
-    decided(m, budget, heads, triples);
-    show::numbers(b"heads", heads, table::head_count(size));
-    show::numbers(b"triples", triples, table::triple_count(size));
-    line(
-        b"sevens",
-        show::numbers_filled(heads, 7),
-        show::numbers_filled(triples, 7),
-    );
-    check(m, heads, triples);
-}
-
-fn show_steps(m: Model, steps: &[u16], k: usize, stack: &mut [u8]) {
-    show::numbers(b"steps", steps, 12);
-    if k <= steps.len() {
-        replayed(m, &steps[..k], stack);
-    }
-}
-
-fn call_trace(
-    m: Model,
-    budget: u32,
-    heads: &mut [u16],
-    triples: &mut [u16],
-    room: &mut [u16],
+    steps: &mut [u16],
     stack: &mut [u8],
 ) {
-    let k = traced(m, budget, heads, triples, room);
-    show_steps(m, room, k, stack);
-}
-
-fn call_both(
-    m: Model,
-    budget: u32,
-    heads: &mut [u16],
-    triples: &mut [u16],
-    room: &mut [u16],
-    stack: &mut [u8],
-) {
-    call_all(m, budget, heads, triples);
-    call_trace(m, budget, heads, triples, room, stack);
+    let t = trace::trace(m, budget, heads, triples, steps);
+    let said = answers::of_trace(t);
+    show::say(said);
+    replayed(m, steps, stored(said), stack);
 }
 
 // How many cells an array has: n, or none where it is the one that is too short.
@@ -166,39 +101,55 @@ fn kept(short: u32, which: u32, n: usize) -> usize
     n
 }
 
-fn with_arrays(m: Model, budget: u32, room: usize, short: u32) {
+// The decision between two checks, in arrays full of other numbers.
+fn call_decision(m: Model, budget: u32, short: u32) {
+    let mut heads = [7u16; 260];
+    let mut triples = [7u16; 2060];
+    let h = kept(short, 1, 260);
+    let t = kept(short, 2, 2060);
+    check(m, &heads[..h], &triples[..t]);
+    decided(m, budget, &mut heads[..h], &mut triples[..t]);
+}
+
+// The trace and its replay, in arrays that hold every fact at rank 0 beforehand.
+fn call_trace(m: Model, budget: u32, room: usize, short: u32) {
     if 8200 < room {
         return;
     }
-    let mut heads = [7u16; 260];
-    let mut triples = [7u16; 2060];
+    let mut heads = [0u16; 260];
+    let mut triples = [0u16; 2060];
     let mut steps = [9u16; 8200];
     let mut stack = [5u8; 8300];
     let h = kept(short, 1, 260);
     let t = kept(short, 2, 2060);
-    let k = kept(short, 3, 8300);
-    call_both(
+    let s = kept(short, 3, 8300);
+    traced(
         m,
         budget,
         &mut heads[..h],
         &mut triples[..t],
         &mut steps[..room],
-        &mut stack[..k],
+        &mut stack[..s],
     );
+}
+
+// The calls on a model, by the numbers that were given with it.
+fn call(m: Model, given: [u32; 4]) {
+    let budget = given[1];
+    let short = given[3];
+    call_decision(m, budget, short);
+    call_trace(m, budget, whole(given[2]), short);
 }
 
 // A text is read; and the calls are made where four numbers are given.
 fn answer(part: &[u8], numbers: Numbers) {
     let read = reader::read_model(part);
-    if numbers.count != 4 {
-        reading::show_reading(read);
+    if numbers.count == 4 {
+        let given = numbers.at;
+        call(read.model, given);
         return;
     }
-    let m = read.model;
-    let given = numbers.at;
-    let budget = given[1];
-    let room = whole(given[2]);
-    with_arrays(m, budget, room, given[3]);
+    reading::show_reading(read);
 }
 
 // The place after the text that is announced at the front of s, or 0 where there is none.
@@ -215,12 +166,12 @@ fn next(s: &[u8]) -> usize {
     let given = numbers.at;
     let k = whole(given[0]);
     let b = e + 1;
-    let rest = &s[b..];
-    if rest.len() < k {
+    if s.len() - b < k {
         return 0;
     }
-    answer(&rest[..k], numbers);
-    b + k
+    let after = b + k;
+    answer(&s[b..after], numbers);
+    after
 }
 
 fn call_each(all: &[u8]) {
@@ -237,8 +188,12 @@ fn call_each(all: &[u8]) {
     }
 }
 
+fn run(space: &mut [u8]) {
+    let n = io::read_full(STDIN_FILENO, space);
+    call_each(&space[0..n]);
+}
+
 fn main() {
     let mut space = [0u8; 262144];
-    let n = io::read_full(STDIN_FILENO, &mut space);
-    call_each(&space[..n]);
+    run(&mut space);
 }

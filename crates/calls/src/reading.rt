@@ -1,26 +1,10 @@
 // How the reading of a model text ends, and the whole record of an accepted one.
-use crate::show;
+use crate::answers;
 use model::Model;
 use reader::ModelRead;
-use reader::Reading;
+use show::ACCEPTED;
 
-fn rules(rows: &[u8; 1024], n: usize) {
-    show::bytes(b"rules", rows, n);
-}
-
-fn moves(rows: &[u8; 384], n: usize) {
-    show::bytes(b"moves", rows, n);
-}
-
-fn finals(bits: &[bool; 8]) {
-    show::places(b"finals", bits);
-}
-
-fn shown(bits: &[bool; 512]) {
-    show::places(b"shows", bits);
-}
-
-fn accepted(m: Model) {
+fn sizes(m: Model) {
     show::word(b"accepted");
     show::field(m.symbols as u64);
     show::field(m.states as u64);
@@ -29,25 +13,44 @@ fn accepted(m: Model) {
     show::field(m.startsymbol as u64);
     show::field(m.rules as u64);
     show::field(m.moves as u64);
-    show::word(b"\n");
+}
+
+// The first 4·rules cells and the first 3·moves cells.
+fn rows(m: Model) {
+    let rules = m.rulerows;
+    let moves = m.moverows;
+    show::word(b"\nrules");
     if m.rules <= 256 {
-        rules(&m.rulerows, m.rules * 4);
+        show::bytes(&rules, m.rules * 4, 0);
     }
+    show::word(b"\nmoves");
     if m.moves <= 128 {
-        moves(&m.moverows, m.moves * 3);
+        show::bytes(&moves, m.moves * 3, 0);
     }
-    finals(&m.finals);
-    shown(&m.shows);
+}
+
+fn sets(m: Model) {
+    let finals = m.finals;
+    let shows = m.shows;
+    show::word(b"\nfinals");
+    show::places(&finals);
+    show::word(b"\nshows");
+    show::places(&shows);
+    show::word(b"\n");
+}
+
+fn accepted(m: Model) {
+    sizes(m);
+    rows(m);
+    sets(m);
 }
 
 pub fn show_reading(read: ModelRead) {
-    let answer = read.reading;
-    match answer {
-        Reading::Accepted => accepted(read.model),
-        Reading::TooLong => show::line(b"refused", 1, 0),
-        Reading::Malformed(line) => show::line(b"refused", 2, line as u64),
-        Reading::Misplaced(line) => show::line(b"refused", 3, line as u64),
-        Reading::OutOfRange(line) => show::line(b"refused", 4, line as u64),
-        Reading::TooMany(line) => show::line(b"refused", 5, line as u64),
+    let reading = read.reading;
+    let said = answers::of_reading(reading);
+    if said.0 == ACCEPTED {
+        accepted(read.model);
+        return;
     }
+    show::say(said);
 }

@@ -73,6 +73,7 @@ each-answer = record {
   culprit = λ finals z heads triples s a. equal _;
   is-clean = λ finals z heads triples s a. equal _;
   is-valid = λ m. equal _;
+  parts-valid = λ shape rulerows moverows. equal _;
   rule-at = λ rulerows r. equal _;
   next-state = λ rulerows moverows shows r v q. equal _;
   product = λ a b. equal _;

@@ -17,11 +17,12 @@ use Rattle.table.specs.Cells.{headCount, tripleCount, longEnough, headIn, tripl
 use Rattle.culprit.specs.declared.Goal.{Goal}
 use Rattle.culprit.specs.Culprit.{goalAs, culpritIn, cleanIn}
 use Rattle.model.specs.declared.Model.{Model}
+use Rattle.model.specs.declared.Shape.{Shape}
 use Rattle.model.specs.declared.Rule.{Rule}
 use Rattle.model.specs.declared.Next.{Next}
 use Rattle.model.specs.Answers.{ruleAs, nextAs, meant, landed}
 use Rattle.model.specs.Model.{ruleAt, nextAt}
-use Rattle.model.specs.Valid.{valid}
+use Rattle.model.specs.Valid.{ofParts, valid}
 use Rattle.bits.specs.Matrix.{multiplied, image}
 use Rattle.steps.specs.Steps.{classOf, classSteps, statesAfter}
 use Rattle.line.specs.declared.Word.{Word}
@@ -83,6 +84,7 @@ pub record OneAnswer : Type 0 where
   pub is-clean : (finals : List Bool) (z : Size) (heads triples : List ℕ) (s a : ℕ) → One (λ b. b ≡ cleanIn finals (z .symbols) (z .states) heads triples s a)
   -- model
   pub is-valid : (m : Model) → One (λ b. b ≡ valid m)
+  pub parts-valid : (shape : Shape) (rulerows moverows : List ℕ) → One (λ b. b ≡ valid (ofParts shape rulerows moverows [] []))
   pub rule-at : (rulerows : List ℕ) (r : ℕ) → One (λ ρ. ρ ≡ ruleAs (ruleAt rulerows r))
   pub next-state : (rulerows moverows : List ℕ) (shows : List Bool) (r v q : ℕ) → One (λ n. n ≡ nextAs (nextAt rulerows moverows shows r v q))
   -- bits

@@ -98,21 +98,3 @@ module _ (a b : ℕ) where
       go : (i : ℕ) → T (bit a i) → Dec (i < 8) → T (bit b i)
       go i t (yes l) = subst (λ n. T (bit b n)) (zero-add i) (entry-of b 0 i (k i (mat-of a 0 i (lit< tt) l (subst⁻¹ (λ n. T (bit a n)) (zero-add i) t))))
       go i t (no l) = absurd (subst T (bit-past a 8 i h (omega arith)) t)
-
--- an empty factor
-no-entry : (q x : ℕ) → T (mat 0 q x) → ⊥
-no-entry q x t = subst T (bit-zero (q * 8 + x)) (entry-of 0 q x t)
-
-none : (m : ℕ) → m < 2 ^ 64 → ((q x : ℕ) → T (mat m q x) → ⊥) → 0 ≡ m
-none m h k = bit-ext 64 0 m (lit< tt) h λ i l.
-    let q : i / 8 < 8 = div-lt-iff-lt-mul {k = 8} {y = 8} (lit< tt) .1 l in
-    let x : i % 8 < 8 = mod-lt i {m = 8} (lit< tt) in
-    bit-zero i ∙ same-truth false (bit m i) (λ t. absurd t) (λ t. k (i / 8) (i % 8) (mat-of m (i / 8) (i % 8) q x (subst⁻¹ (λ n. T (bit m n)) (div-add-mod' i 8) t)))
-
-pub none-left : (a b : ℕ) → a ≡ 0 → 0 ≡ multiplied a b
-none-left a b e = subst⁻¹ (λ a. 0 ≡ multiplied a b) e
-    (none (multiplied 0 b) (product-lt 0 b) (λ q x t. let (k, s, _) = of-product 0 b q x t in no-entry q k s))
-
-pub none-right : (a b : ℕ) → b ≡ 0 → 0 ≡ multiplied a b
-none-right a b e = subst⁻¹ (λ b. 0 ≡ multiplied a b) e
-    (none (multiplied a 0) (product-lt a 0) (λ q x t. let (k, _, s) = of-product a 0 q x t in no-entry k x s))

@@ -18,13 +18,11 @@ use Rattle.bits.specs.Bit.{bit}
 use Rattle.bits.proofs.Bit.{bit-or, bit-zero}
 use Rattle.bits.proofs.Set.{bit-pow, one-shifted}
 use Rattle.decide.specs.Sets.{member, chosen, With, Put}
-use Rattle.decide.specs.Gather.{kindAt, classAt, overAt, underAt}
+use Rattle.decide.specs.Gather.{kindAt, classAt, overAt, underAt, Empty}
 use Rattle.decide.specs.Frame.{ruleBy}
 use Rattle.decide.specs.Turn.{UsesOf}
-use Rattle.decide.specs.Build.{SameSymbols, rowRule, UsesPut, UsesAll, ExitPut, Exits}
+use Rattle.decide.specs.Build.{SameSymbols, rowRule, UsesPut, UsesAll, ExitPut, Exits, RulePut, RulesSorted}
 use Rattle.decide.proofs.Members.{or-false}
-use Rattle.decide.proofs.Emptied.{zeros-at}
-use Rattle.decide.proofs.Choosing.{off, no-member}
 
 -- one set more has r
 pub record Grew (r : ℕ) (us us′ : List ℕ) : Type 0 where
@@ -94,20 +92,24 @@ module _ (rs : List ℕ) (r : ℕ) (l : r < 256) {us : List ℕ} (long : length 
         ))
 
 -- the first rules
-member-none : (s r : ℕ) → member (replicate {A = ℕ} 384 0) s r ≡ false
+member-none : {us : List ℕ} → Empty 384 us → (s r : ℕ) → member us s r ≡ false
 unfolding member
-member-none s r = ap (λ n. bit n (r % 64)) (zeros-at 384 (s * 4 + r / 64)) ∙ bit-zero (r % 64)
+member-none e s r = ap (λ n. bit n (r % 64)) (e .empty (s * 4 + r / 64)) ∙ bit-zero (r % 64)
+
+chosen-none : {w : List ℕ} → Empty 4 w → (x : ℕ) → chosen w x ≡ false
+unfolding chosen
+chosen-none e x = ap (λ n. bit n (x % 64)) (e .empty (x / 64)) ∙ bit-zero (x % 64)
 
 module _ (rs : List ℕ) where
-  pub uses-none : UsesAll rs 0 (replicate {A = ℕ} 384 0)
-  uses-none = record { long = refl; there = λ r h. absurd (omega arith); only = λ s r h t. absurd (subst T (member-none s r) t) }
+  uses-none : {us : List ℕ} → Empty 384 us → UsesAll rs 0 us
+  uses-none e = record { long = e .long; there = λ r h. absurd (omega arith); only = λ s r h t. absurd (subst T (member-none e s r) t) }
 
   kept-by : (x : ℕ) {r : ℕ} {us us′ : List ℕ} → x < 256 → UsesPut rs r us us′ → (ρ : Rule) → UsesOf us x ρ → UsesOf us′ x ρ
   kept-by x h p (exit g) u = tt
   kept-by x h p (direct g g1) (a, b) = (p .kept g1 x h a, p .kept (64 + g) x h b)
   kept-by x h p (call g g1 g2) (a, b, c, d) = (p .kept g1 x h a, p .kept g2 x h b, p .kept (32 + g1) x h c, p .kept (64 + g) x h d)
 
-  pub uses-more : (n : ℕ) {us us′ : List ℕ} → n < 256 → UsesAll rs n us → UsesPut rs n us us′ → UsesAll rs (n + 1) us′
+  uses-more : (n : ℕ) {us us′ : List ℕ} → n < 256 → UsesAll rs n us → UsesPut rs n us us′ → UsesAll rs (n + 1) us′
   uses-more n {us} {us′} l a p = record {
     long = p .long;
     there = λ r h. at r h (ℕ-discrete r n);
@@ -117,9 +119,6 @@ module _ (rs : List ℕ) where
       at : (r : ℕ) → r < n + 1 → Dec (r ≡ n) → UsesOf us′ r (rowRule rs r)
       at r h (yes e) = subst⁻¹ (λ r. UsesOf us′ r (rowRule rs r)) e (p .there)
       at r h (no e) = kept-by r (omega arith) p (rowRule rs r) (a .there r (omega arith))
-
-  pub uses-all : (n k : ℕ) {us : List ℕ} → n ≡ k → UsesAll rs n us → UsesAll rs k us
-  uses-all n k {us} e = subst (λ n. UsesAll rs n us) e
 
   -- the exits
   pub exit-other : (r : ℕ) {w : List ℕ} → length w ≡ 4 → (kindAt rs r ≡ 0 → ⊥) → ExitPut rs r w w
@@ -136,10 +135,10 @@ module _ (rs : List ℕ) where
       and-on true = refl
       and-on false = refl
 
-  pub exits-none : Exits rs 0 (replicate {A = ℕ} 4 0)
-  exits-none = record { long = refl; is = λ x. off (chosen (replicate {A = ℕ} 4 0) x) (no-member x) ∙ sym (ap (λ b. b && eqb (kindAt rs x) 0) (le-ltb x 0 (omega arith))) }
+  exits-none : {w : List ℕ} → Empty 4 w → Exits rs 0 w
+  exits-none e = record { long = e .long; is = λ x. chosen-none e x ∙ sym (ap (λ b. b && eqb (kindAt rs x) 0) (le-ltb x 0 (omega arith))) }
 
-  pub exits-more : (n : ℕ) {w w′ : List ℕ} → Exits rs n w → ExitPut rs n w w′ → Exits rs (n + 1) w′
+  exits-more : (n : ℕ) {w w′ : List ℕ} → Exits rs n w → ExitPut rs n w w′ → Exits rs (n + 1) w′
   exits-more n {w} {w′} a p = record { long = p .long; is = λ x. p .is x ∙ ap (λ b. b || (eqb n x && eqb (kindAt rs n) 0)) (a .is x) ∙ at x (ℕ-discrete n x) }
     where
       at : (x : ℕ) → Dec (n ≡ x) → (ltb x n && eqb (kindAt rs x) 0) || (eqb n x && eqb (kindAt rs n) 0) ≡ ltb x (n + 1) && eqb (kindAt rs x) 0
@@ -152,8 +151,15 @@ module _ (rs : List ℕ) where
           go (yes h) = rw (ne-eqb n x e, lt-ltb x n h, lt-ltb x (n + 1) (omega arith)) (sym (or-false (eqb (kindAt rs x) 0)))
           go (no h) = rw (ne-eqb n x e, le-ltb x n (omega arith), le-ltb x (n + 1) (omega arith))
 
-  pub exits-all : (n k : ℕ) {w : List ℕ} → n ≡ k → Exits rs n w → Exits rs k w
-  exits-all n k {w} e = subst (λ n. Exits rs n w) e
+  -- both
+  pub sorted-none : {us w : List ℕ} → Empty 384 us → Empty 4 w → RulesSorted rs 0 us w
+  sorted-none u e = record { uses = uses-none u; exits = exits-none e }
+
+  pub sorted-more : (n : ℕ) {us w us′ w′ : List ℕ} → n < 256 → RulesSorted rs n us w → RulePut rs n us w us′ w′ → RulesSorted rs (n + 1) us′ w′
+  sorted-more n l a p = record { uses = uses-more n l (a .uses) (p .uses); exits = exits-more n (a .exits) (p .exits) }
+
+  pub sorted-all : (n k : ℕ) {us w : List ℕ} → n ≡ k → RulesSorted rs n us w → RulesSorted rs k us w
+  sorted-all n k {us} {w} e = subst (λ n. RulesSorted rs n us w) e
 
 -- the final states
 module _ (fs : List Bool) where

@@ -1,6 +1,6 @@
 -- Lists of zeros: no row in them has an entry. Assumes nothing.
 use mathlib.Core.List.{List}
-use mathlib.Core.Path.{_≡_, refl}
+use mathlib.Core.Path.{_≡_, refl, ap}
 use Prim.Native.Nat.{ℕ, zero, suc}
 use lib.ListN.{length, getD, replicate}
 use Rattle.decide.specs.Gather.{Empty}
@@ -10,5 +10,9 @@ zeros-at zero g = refl
 zeros-at (suc n) zero = refl
 zeros-at (suc n) (suc g) = zeros-at n g
 
-pub empty-first : Empty 32 (replicate {A = ℕ} 32 0)
-empty-first = record { long = refl; empty = zeros-at 32 }
+zeros-long : (n : ℕ) → length (replicate {A = ℕ} n 0) ≡ n
+zeros-long zero = refl
+zeros-long (suc n) = ap suc (zeros-long n)
+
+pub empty-first : (n : ℕ) → Empty n (replicate {A = ℕ} n 0)
+empty-first n = record { long = zeros-long n; empty = zeros-at n }

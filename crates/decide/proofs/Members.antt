@@ -22,7 +22,7 @@ use Rattle.bits.proofs.Bit.{bit-or, bit-zero}
 use Rattle.bits.proofs.Set.{bit-set}
 use Rattle.bits.proofs.Lowest.{lowest, lowest-set, cleared, cleared-less}
 use Rattle.bits.proofs.Some.{some-of, of-some, low64}
-use Rattle.decide.specs.Sets.{member, chosen, among, With, FirstWord, weight, Picked, Joined, Put}
+use Rattle.decide.specs.Sets.{member, chosen, among, With, weight, Picked, Joined, Put}
 
 sixty-four : 0 < 64
 sixty-four = zero-lt-suc 63
@@ -129,9 +129,9 @@ module _ (w : List ℕ) (k d : ℕ) (long : length w ≡ 4) (k-in : k < 4) (pos 
           ∙ and-true (chosen w x) ∙ ap (λ b. chosen w x && not b) (sym (apart x r (λ e. y (sym word-is ∙ sym e))))
 
 -- no word is left
-pub picked-none : (w : List ℕ) → length w ≡ 4 → FirstWord w 4 → Picked w 256 w
+pub picked-none : (w : List ℕ) → length w ≡ 4 → getD w 0 0 ≡ 0 → getD w 1 0 ≡ 0 → getD w 2 0 ≡ 0 → getD w 3 0 ≡ 0 → Picked w 256 w
 unfolding chosen
-picked-none w long f = record {
+picked-none w long a b c d = record {
   long = long;
   there = λ h. absurd (omega arith);
   less = λ h. absurd (omega arith);
@@ -139,8 +139,15 @@ picked-none w long f = record {
   none = λ _ x. at x (decLt (x / 64) 4);
 }
   where
+    word : (k : ℕ) → k < 4 → getD w k 0 ≡ 0
+    word zero l = a
+    word (suc zero) l = b
+    word (suc (suc zero)) l = c
+    word (suc (suc (suc zero))) l = d
+    word (suc (suc (suc (suc k)))) l = absurd (omega arith)
+
     at : (x : ℕ) → Dec (x / 64 < 4) → chosen w x ≡ false
-    at x (yes l) = ap (λ n. bit n (x % 64)) (f .before (x / 64) l) ∙ bit-zero (x % 64)
+    at x (yes l) = ap (λ n. bit n (x % 64)) (word (x / 64) l) ∙ bit-zero (x % 64)
     at x (no l) = ap (λ n. bit n (x % 64)) (past w (x / 64) (omega (arith, long))) ∙ bit-zero (x % 64)
       where
         past : (w : List ℕ) (i : ℕ) → length w ≤ i → getD w i 0 ≡ 0
@@ -239,45 +246,6 @@ module _ (w : List ℕ) (f : ℕ → Bool) where
           let (r, i, u) = Lists.some-of (λ r. chosen w r && f r) (upTo n) t in
           let l = upTo-lt n r i in
           among-of w f r (omega arith) (and-left (chosen w r) (f r) u) (and-right (chosen w r) (f r) u)
-
--- the words before the first that is not empty
-abbrev Zeros : List ℕ → ℕ → Type 0
-Zeros w k = (i : ℕ) → i < k → getD w i 0 ≡ 0
-
-zeros-more : (w : List ℕ) (k : ℕ) → Zeros w k → getD w k 0 ≡ 0 → Zeros w (suc k)
-zeros-more w k z e i h = go (ℕ-discrete i k)
-  where
-    go : Dec (i ≡ k) → getD w i 0 ≡ 0
-    go (yes y) = ap (λ i. getD w i 0) y ∙ e
-    go (no y) = z i (omega arith)
-
-module _ (w : List ℕ) where
-  zeros-0 : Zeros w 0
-  zeros-0 i h = absurd (omega arith)
-
-  module _ (a : getD w 0 0 ≡ 0) where
-    zeros-1 : Zeros w 1
-    zeros-1 = zeros-more w 0 zeros-0 a
-
-    pub first-1 : (getD w 1 0 ≡ 0 → ⊥) → FirstWord w 1
-    first-1 h = record { small = omega arith; there = λ _. h; before = zeros-1 }
-
-    module _ (b : getD w 1 0 ≡ 0) where
-      zeros-2 : Zeros w 2
-      zeros-2 = zeros-more w 1 zeros-1 b
-
-      pub first-2 : (getD w 2 0 ≡ 0 → ⊥) → FirstWord w 2
-      first-2 h = record { small = omega arith; there = λ _. h; before = zeros-2 }
-
-      module _ (c : getD w 2 0 ≡ 0) where
-        zeros-3 : Zeros w 3
-        zeros-3 = zeros-more w 2 zeros-2 c
-
-        pub first-3 : (getD w 3 0 ≡ 0 → ⊥) → FirstWord w 3
-        first-3 h = record { small = omega arith; there = λ _. h; before = zeros-3 }
-
-        pub first-4 : getD w 3 0 ≡ 0 → FirstWord w 4
-        first-4 d = record { small = omega arith; there = λ h. absurd (omega arith); before = zeros-more w 3 zeros-3 d }
 
 pub positive : (n : ℕ) → (n ≡ 0 → ⊥) → 0 < n
 positive zero h = absurd (h refl)

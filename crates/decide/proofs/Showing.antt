@@ -4,7 +4,7 @@ use mathlib.Core.List.{List}
 use mathlib.Core.Logic.{_⊎_, inl, inr}
 use mathlib.Core.Path.{_≡_, refl, sym, ap, ap₂, _∙_, subst, subst⁻¹}
 use Prim.Native.Nat.{ℕ, zero, suc, _+_, _-_, _*_, _%_, _^_, _<_, _≤_}
-use native.Mathlib.Nat.{zero-add}
+use native.Mathlib.Nat.{zero-add, mul-comm}
 use native.Mathlib.Omega.{arith}
 use native.Mathlib.Decide.{ℕ-discrete}
 use lib.Dec.{T, eqb, ltb, eqb→eq, eqb·suc-zero, eqb·suc-suc}
@@ -15,6 +15,7 @@ use lib.Seq.{getD-set-same, getD-set-other}
 use Rattle.product.proofs.Lists.{and-left, and-right, or-cases, T-true}
 use Rattle.table.specs.declared.Size.{Size}
 use Rattle.bits.specs.Bit.{bit}
+use Rattle.steps.specs.Steps.{classOf, statesAfter}
 use Rattle.bits.specs.Matrix.{mat, mats, some, passed, image}
 use Rattle.bits.proofs.Bit.{bit-or, bit-zero}
 use Rattle.bits.proofs.Set.{bit-pow, one-shifted}
@@ -86,9 +87,15 @@ shows-alike m m′ {a} k s = record {
   others = s .others;
 }
 
-pub land-is : (sy tg hd : List ℕ) (c g v : ℕ) → g ≡ symbolAt sy c → v ≡ image (getD hd g 0) (getD tg c 0) → v ≡ landing sy tg hd c
-unfolding landing
-land-is sy tg hd c g v g-is v-is = v-is ∙ ap (λ g. image (getD hd g 0) (getD tg c 0)) g-is
+-- the class of a row
+pub class-at : (rs : List ℕ) (i : ℕ) → i < 256 → classOf rs i ≡ classAt rs i
+unfolding classOf
+class-at rs i h = rw (lt-ltb i 256 h) (ap (λ n. getD rs (n + 1) 0) (mul-comm i 4))
+
+pub land-is : (rs sy tg hd : List ℕ) (i c g v : ℕ) → i < 256 → c ≡ classOf rs i → g ≡ symbolAt sy c → v ≡ statesAfter rs tg i (getD hd g 0) → v ≡ landing sy tg hd (classAt rs i)
+unfolding landing statesAfter
+land-is rs sy tg hd i c g v h c-is g-is v-is =
+    v-is ∙ ap₂ (λ g c. image (getD hd g 0) (getD tg c 0)) (g-is ∙ ap (symbolAt sy) (c-is ∙ class-at rs i h)) (class-at rs i h)
 
 some-off : (n : ℕ) (f : ℕ → Bool) → ((k : ℕ) → f k ≡ false) → some n f ≡ false
 some-off zero f h = refl
@@ -116,9 +123,9 @@ module _ (rs sy tg e hd nh : List ℕ) (i : ℕ) where
   unfolding shown
   show-exit k = shows-none (shown rs sy tg e hd i) nh (λ g x. rw (eq-eqb (kindAt rs i) 0 k))
 
-  module _ (k : kindAt rs i ≡ 0 → ⊥) (c v : ℕ) (c-is : c ≡ classAt rs i) (v-is : v ≡ landing sy tg hd c) where
+  module _ (k : kindAt rs i ≡ 0 → ⊥) (v : ℕ) (v-is : v ≡ landing sy tg hd (classAt rs i)) where
     lands : (x : ℕ) → bit v x ≡ l x
-    lands x = ap (λ n. bit n x) (v-is ∙ ap (landing sy tg hd) c-is)
+    lands x = ap (λ n. bit n x) v-is
 
     pub show-none : v ≡ 0 → Shows (shown rs sy tg e hd i) nh 0 nh
     unfolding shown
@@ -134,6 +141,19 @@ module _ (rs sy tg e hd nh : List ℕ) (i : ℕ) where
       unfolding shown
       show-direct j =
           shows-alike (λ g x. eqb (overAt rs i) g && l x) (shown rs sy tg e hd i) (λ g x. rw (ne-eqb (kindAt rs i) 0 k, eq-eqb (kindAt rs i) 1 j)) on-top
+
+      -- a call whose g1 has no triple
+      pub show-entered : (kindAt rs i ≡ 1 → ⊥) → getD e g1 0 ≡ 0 → Shows (shown rs sy tg e hd i) nh t nh′
+      unfolding shown
+      show-entered j z =
+          shows-alike (λ g x. eqb (overAt rs i) g && l x) (shown rs sy tg e hd i)
+          (λ g x. rw (ne-eqb (kindAt rs i) 0 k, ne-eqb (kindAt rs i) 1 j) (or-false (eqb (overAt rs i) g && l x) ∙ ap (λ b. (eqb (overAt rs i) g && l x) || b) (sym (none g x)))) on-top
+        where
+          no-triple : (q x : ℕ) → mats e (overAt rs i) q x ≡ false
+          no-triple q x = mat-none (getD e (overAt rs i) 0) q x (ap (λ g. getD e g 0) (sym g1-is) ∙ z)
+
+          none : (g x : ℕ) → eqb (underAt rs i) g && some 8 (λ k. l k && mats e (overAt rs i) k x) ≡ false
+          none g x = ap (λ b. eqb (underAt rs i) g && b) (some-off 8 (λ k. l k && mats e (overAt rs i) k x) (λ k. ap (λ b. l k && b) (no-triple k x) ∙ off-and (l k))) ∙ off-and (eqb (underAt rs i) g)
 
       module _ (j : kindAt rs i ≡ 1 → ⊥) (u g2 : ℕ) (u-is : u ≡ image v (getD e g1 0)) (g2-is : g2 ≡ underAt rs i)
           {t′ : ℕ} {nh″ : List ℕ} (s′ : Shows (λ g x. eqb g2 g && bit u x) nh′ t′ nh″) where

@@ -3,18 +3,19 @@ use mathlib.Core.Bool.{Bool, true, false, cond, not, _&&_, and-true}
 use mathlib.Core.List.{List, []}
 use mathlib.Core.Path.{_≡_, refl, sym, ap, ap₂, _∙_, subst, subst⁻¹, fun-ext}
 use Prim.Native.Nat.{ℕ, zero, suc, _+_, _-_, _*_, _/_, _%_, _^_, _<_, _≤_}
-use native.Mathlib.Nat.{div-add-mod', mod-lt, zero-lt-suc, zero-add, div-lt-iff-lt-mul}
+use native.Mathlib.Nat.{div-add-mod', mod-lt, zero-lt-suc, zero-add, div-lt-iff-lt-mul, mul-comm, mul-assoc, add-mul}
 use native.Mathlib.Omega.{arith}
 use native.Mathlib.Decide.{ℕ-discrete, decLt}
-use lib.Arith.{digits-div, digits-mod}
+use lib.Arith.{digits-lt, digits-div, digits-mod}
 use lib.Dec.{T, eqb, ltb}
 use borrow.Author.Tests.{eqb-true, eqb-false, eq-eqb, ne-eqb, ltb-true, ltb-false, lt-ltb}
-use lib.ListN.{length, drop}
+use lib.ListN.{length, drop, set}
 use lib.Bits.{bitAnd}
 use Rattle.product.specs.Facts.{Fact, head, triple, same}
 use Rattle.product.specs.Table.{Table}
 use Rattle.table.specs.declared.Size.{Size}
-use Rattle.table.specs.Cells.{view, store, putHead, putTriple}
+use Rattle.table.specs.Cells.{view, store, tripleCell, putHead, putTriple}
+use Rattle.table.proofs.Cells.{triple-inside}
 use Rattle.table.proofs.Store.{store-head, past-head, length-head, store-triple, past-triple, length-triple}
 use Rattle.product.proofs.Lists.{T-true}
 use Rattle.bits.specs.Bit.{bit}
@@ -216,19 +217,34 @@ module _ (z : Size) (k g b : ℕ) (xs₀ : List ℕ) where
   part-next d p h k i t = k i (and-first (bit d i) (not (eqb i (lowest d))) (subst T (cleared 64 d i p h) t))
 
   module _ (h : Stamps of-triples z g b xs₀) where
-    pub triples-next : (d : ℕ) (xs xs′ : List ℕ) → 0 < d → Left of-triples z k g b xs₀ d xs → xs′ ≡ putTriple (z .symbols) (z .states) xs (lowest d / 8) g (lowest d % 8) k
-        → Left of-triples z k g b xs₀ (bitAnd d (d - 1)) xs′
-    triples-next d xs xs′ p l w =
-        let (i, j) = h .inside (lowest d) (l .part (lowest d) (lowest-set 64 d p (l .small))) in
-        let long : z .states * z .symbols * z .states ≤ length xs = omega (arith, h .long, l .as-long) in
-        subst⁻¹ (Left of-triples z k g b xs₀ (bitAnd d (d - 1))) w
-        record {
-          small = omega (arith, cleared-less d p, l .small);
-          part = part-next d p (l .small) (l .part);
-          is = ap (stamped k g (bitAnd d (d - 1))) (store-triple i (h .symbol) j k xs [] long) ∙ sym (stamp-step k g d p (l .small) (viewOf of-triples z xs)) ∙ l .is;
-          as-long = length-triple i (h .symbol) j k xs ∙ l .as-long;
-          past = past-triple i (h .symbol) j k xs ∙ l .past;
-        }
+    -- the next cell, counted from the first of the symbol
+    module _ {first row : ℕ} (first-is : first ≡ g * z .states) (row-is : row ≡ z .states * z .symbols) (d : ℕ) (xs : List ℕ) (p : 0 < d) (l : Left of-triples z k g b xs₀ d xs) where
+      inside : (lowest d / 8 < z .states) × (lowest d % 8 < z .states)
+      inside = h .inside (lowest d) (l .part (lowest d) (lowest-set 64 d p (l .small)))
+
+      long : z .states * z .symbols * z .states ≤ length xs
+      long = omega (arith, h .long, l .as-long)
+
+      cell-is : first + lowest d / 8 * row + lowest d % 8 ≡ tripleCell (z .symbols) (z .states) (lowest d / 8) g (lowest d % 8)
+      cell-is = omega (arith, first-is, ap (λ r. lowest d / 8 * r) (row-is ∙ mul-comm (z .states) (z .symbols)), mul-assoc (lowest d / 8) (z .symbols) (z .states), add-mul (lowest d / 8 * z .symbols) g (z .states))
+
+      pub cell-in : first + lowest d / 8 * row + lowest d % 8 < length xs
+      cell-in = omega (arith, cell-is, digits-lt (digits-lt (inside .0) (h .symbol)) (inside .1), long)
+
+      put-is : set xs (first + lowest d / 8 * row + lowest d % 8) k ≡ putTriple (z .symbols) (z .states) xs (lowest d / 8) g (lowest d % 8) k
+      put-is = rw (triple-inside (inside .0) (h .symbol) (inside .1)) (ap (λ n. set xs n k) cell-is)
+
+      pub triples-next : Left of-triples z k g b xs₀ (bitAnd d (d - 1)) (set xs (first + lowest d / 8 * row + lowest d % 8) k)
+      triples-next =
+          let (i, j) = inside in
+          subst⁻¹ (Left of-triples z k g b xs₀ (bitAnd d (d - 1))) put-is
+          record {
+            small = omega (arith, cleared-less d p, l .small);
+            part = part-next d p (l .small) (l .part);
+            is = ap (stamped k g (bitAnd d (d - 1))) (store-triple i (h .symbol) j k xs [] long) ∙ sym (stamp-step k g d p (l .small) (viewOf of-triples z xs)) ∙ l .is;
+            as-long = length-triple i (h .symbol) j k xs ∙ l .as-long;
+            past = past-triple i (h .symbol) j k xs ∙ l .past;
+          }
 
     pub triples-last : b < 2 ^ 64 → (d : ℕ) (xs : List ℕ) → d ≡ 0 → Left of-triples z k g b xs₀ d xs
         → Became of-triples z xs₀ (ranked k (named of-triples (alone g b)) (viewOf of-triples z xs₀)) xs

@@ -1,6 +1,6 @@
 -- What the tests of a call say: refusal 6, refusal 7, or that the rounds can run. Assumes nothing.
 use mathlib.Core.Bool.{Bool, true, false, not}
-use mathlib.Core.List.{List}
+use mathlib.Core.List.{List, []}
 use mathlib.Core.Path.{_≡_, sym, _∙_, subst}
 use Prim.Native.Nat.{ℕ}
 use lib.Dec.{T}
@@ -8,11 +8,20 @@ use lib.ListN.{length}
 use borrow.Author.Tests.{not-true, not-false}
 use Rattle.table.proofs.Long.{long-exactly}
 use Rattle.model.specs.declared.Model.{Model}
-use Rattle.model.specs.Valid.{valid}
+use Rattle.model.specs.declared.Shape.{Shape}
+use Rattle.model.specs.Valid.{ofParts, valid}
 use Rattle.decide.specs.declared.Decision.{Decision}
 use Rattle.decide.specs.declared.Decision.the-variants.{Invalid, Short}
 use Rattle.decide.specs.Decided.{longEnough, decision, headsLeft, triplesLeft, Decided}
 use Rattle.decide.specs.Ran.{Able, Ran}
+
+-- what a record says beside its arrays; a record's parts are valid exactly if it is
+abbrev shape : Model → Shape
+shape m = record { symbols = m .symbols; states = m .states; events = m .events; startstate = m .startstate; startsymbol = m .startsymbol; rules = m .rules; moves = m .moves }
+
+pub of-parts : (m : Model) {b : Bool} → b ≡ valid (ofParts (shape m) (m .rulerows) (m .moverows) [] []) → b ≡ valid m
+unfolding valid
+of-parts m e = e
 
 -- b is the answer to whether the model is valid
 module _ (m : Model) (budget : ℕ) (hs ts : List ℕ) {b : Bool} (tested : b ≡ valid m) where

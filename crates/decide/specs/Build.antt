@@ -20,7 +20,7 @@ SameSymbols n sy = (c : ℕ) → c < n → getD sy c 0 ≡ c
 abbrev pub rowRule : List ℕ → ℕ → Rule
 rowRule rs r = ruleBy (kindAt rs r) (classAt rs r % 32) (overAt rs r) (underAt rs r)
 
--- rule r was put into the sets of what it needs, and nothing else; and the first n rules
+-- rule r was put into the sets of what it needs, and no other rule into any; and the first n rules
 pub record UsesPut (rs : List ℕ) (r : ℕ) (us us′ : List ℕ) : Type 0 where
   pub long : length us′ ≡ 384
   pub there : UsesOf us′ r (rowRule rs r)
@@ -40,3 +40,12 @@ pub record ExitPut (rs : List ℕ) (r : ℕ) (w w′ : List ℕ) : Type 0 where
 pub record Exits (rs : List ℕ) (n : ℕ) (w : List ℕ) : Type 0 where
   pub long : length w ≡ 4
   pub is : (x : ℕ) → chosen w x ≡ ltb x n && eqb (kindAt rs x) 0
+
+-- both: rule r was put where it belongs, and the first n rules were
+pub record RulePut (rs : List ℕ) (r : ℕ) (us w us′ w′ : List ℕ) : Type 0 where
+  pub uses : UsesPut rs r us us′
+  pub exits : ExitPut rs r w w′
+
+pub record RulesSorted (rs : List ℕ) (n : ℕ) (us w : List ℕ) : Type 0 where
+  pub uses : UsesAll rs n us
+  pub exits : Exits rs n w

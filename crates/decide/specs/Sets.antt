@@ -24,15 +24,10 @@ pub record With (w : List ℕ) (c : ℕ) (w′ : List ℕ) : Type 0 where
   pub long : length w′ ≡ 4
   pub is : (x : ℕ) → chosen w′ x ≡ chosen w x || eqb c x
 
-pub record FirstWord (w : List ℕ) (k : ℕ) : Type 0 where
-  pub small : k ≤ 4
-  pub there : k < 4 → getD w k 0 ≡ 0 → ⊥
-  pub before : (i : ℕ) → i < k → getD w i 0 ≡ 0
-
 abbrev pub weight : List ℕ → ℕ
 weight w = getD w 0 0 + getD w 1 0 + getD w 2 0 + getD w 3 0
 
--- r is a member and w′ the set without it, or r is 256 and there is none
+-- r is a member and w′ the set without it, or r is not below 256 and there is none
 pub record Picked (w : List ℕ) (r : ℕ) (w′ : List ℕ) : Type 0 where
   pub long : length w′ ≡ 4
   pub there : r < 256 → T (chosen w r)

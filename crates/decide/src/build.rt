@@ -5,7 +5,8 @@ ghost use Prim.Native.Nat.{ℕ, _<_, _≤_, _^_};
 ghost use lib.Dec.{ltb};
 ghost use lib.ListN.{length, getD};
 ghost use Rattle.bits.specs.Bit.{bit};
-ghost use Rattle.decide.specs.Build.{SameSymbols, UsesPut, UsesAll, ExitPut, Exits};
+ghost use Rattle.decide.specs.Build.{SameSymbols, RulePut, RulesSorted};
+ghost use Rattle.decide.specs.Gather.{Empty};
 use crate::sets::add;
 use crate::sets::put;
 use crate::triples::low;
@@ -23,14 +24,16 @@ pub fn symbols() -> [u8; 256]
     sy
 }
 
-// Puts rule r into the sets of the symbols whose triples or heads it needs.
-fn put_uses(rules: &[u8; 1024], r: usize, us: &mut [u64; 384])
+// Puts rule r into the sets of the symbols whose triples or heads it needs. An exit needs none, and is put among the exits.
+fn sort_rule(rules: &[u8; 1024], r: usize, us: &mut [u64; 384], exits: &mut [u64; 4])
     requires { ⌜ r < 256 ⌝ }
     requires { ⌜ length (now us) ≡ 384 ⌝ }
-    ensures { λ _. ⌜ UsesPut (now (rules .entry)) r (now (us .entry)) (now (us .exit)) ⌝ }
+    requires { ⌜ length (now exits) ≡ 4 ⌝ }
+    ensures { λ _. ⌜ RulePut (now (rules .entry)) r (now (us .entry)) (now (exits .entry)) (now (us .exit)) (now (exits .exit)) ⌝ }
 {
     let kind = rules[4 * r];
     if kind == 0 {
+        add(exits, r);
         return;
     }
     put(us, 64 + low(rules[4 * r + 1]), r);
@@ -43,44 +46,18 @@ fn put_uses(rules: &[u8; 1024], r: usize, us: &mut [u64; 384])
     put(us, 32 + g1, r);
 }
 
-// The sets of rules by what they need.
-pub fn uses(rules: &[u8; 1024], count: usize) -> [u64; 384]
+// The sets of rules by what they need, and the exits, which give triples in the first round. The sets are filled where they lie: they are large.
+pub fn sort_rules(rules: &[u8; 1024], count: usize, us: &mut [u64; 384], exits: &mut [u64; 4])
     requires { ⌜ count ≤ 256 ⌝ }
-    ensures { λ us. ⌜ UsesAll (now (rules .entry)) count us ⌝ }
+    requires { ⌜ Empty 384 (now us) ⌝ }
+    requires { ⌜ Empty 4 (now exits) ⌝ }
+    ensures { λ _. ⌜ RulesSorted (now (rules .entry)) count (now (us .exit)) (now (exits .exit)) ⌝ }
 {
-    let mut us = [0u64; 384];
     let mut r: usize = 0;
     while r < count {
-        put_uses(rules, r, &mut us);
+        sort_rule(rules, r, us, exits);
         r += 1;
     }
-    us
-}
-
-// Puts rule r into the set, if it is an exit.
-fn put_exit(rules: &[u8; 1024], r: usize, set: &mut [u64; 4])
-    requires { ⌜ r < 256 ⌝ }
-    requires { ⌜ length (now set) ≡ 4 ⌝ }
-    ensures { λ _. ⌜ ExitPut (now (rules .entry)) r (now (set .entry)) (now (set .exit)) ⌝ }
-{
-    if rules[4 * r] != 0 {
-        return;
-    }
-    add(set, r);
-}
-
-// The exits: the rules that give triples in the first round.
-pub fn exits(rules: &[u8; 1024], count: usize) -> [u64; 4]
-    requires { ⌜ count ≤ 256 ⌝ }
-    ensures { λ w. ⌜ Exits (now (rules .entry)) count w ⌝ }
-{
-    let mut w = [0u64; 4];
-    let mut r: usize = 0;
-    while r < count {
-        put_exit(rules, r, &mut w);
-        r += 1;
-    }
-    w
 }
 
 // State q as a set, if it is final.

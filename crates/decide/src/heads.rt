@@ -6,22 +6,22 @@ ghost use lib.Dec.{eqb};
 ghost use lib.ListN.{length};
 ghost use Rattle.bits.specs.Bit.{bit};
 ghost use Rattle.decide.specs.Stamp.{of-heads, alone};
-ghost use Rattle.decide.specs.Gather.{Empty};
+ghost use Rattle.decide.specs.Gather.{classAt, Empty};
 ghost use Rattle.decide.specs.Take.{Took, Room, Fits};
 ghost use Rattle.decide.specs.Show.{landing, shown, shownAll, Shows, RowsCover, ShowsAll, RowsFit, SettlesRows};
 use crate::sets::pick;
 use crate::stamps::stamp_heads;
 use crate::triples::low;
-use crate::triples::wide;
 use table::Size;
 
-// The states in which the steps of class c end, from the heads of its symbol.
-fn land(c: usize, sy: &[u8; 256], tg: &[u64; 256], hd: &[u64; 32]) -> u64
-    requires { ⌜ c < 256 ⌝ }
-    ensures { λ v. ⌜ v ≡ landing (now (sy .entry)) (now (tg .entry)) (now (hd .entry)) c ⌝ }
+// The states in which the steps of rule i end, from the heads of its symbol.
+fn land(i: usize, rules: &[u8; 1024], sy: &[u8; 256], tg: &[u64; 256], hd: &[u64; 32]) -> u64
+    requires { ⌜ i < 256 ⌝ }
+    ensures { λ v. ⌜ v ≡ landing (now (sy .entry)) (now (tg .entry)) (now (hd .entry)) (classAt (now (rules .entry)) i) ⌝ }
 {
+    let c = steps::class_of(rules, i);
     let g = low(sy[c]);
-    bits::through(hd[g], tg[c])
+    steps::states_after(rules, tg, i, hd[g])
 }
 
 // The row of symbol g takes in v. Answers the set of g.
@@ -52,7 +52,7 @@ fn show(
     if kind == 0 {
         return 0;
     }
-    let v = land(wide(rules[4 * i + 1]), sy, tg, hd);
+    let v = land(i, rules, sy, tg, hd);
     if v == 0 {
         return 0; // no head is passed on
     }
@@ -61,8 +61,12 @@ fn show(
     if kind == 1 {
         return t;
     }
+    let back = e[g1];
+    if back == 0 {
+        return t; // nothing is returned to
+    }
     let g2 = low(rules[4 * i + 3]);
-    t | add_row(g2, bits::through(v, e[g1]), nh)
+    t | add_row(g2, bits::through(v, back), nh)
 }
 
 // The rules of a set.

@@ -5,7 +5,7 @@ ghost use lib.ListN.{length, getD};
 ghost use lib.Dec.{T};
 ghost use Rattle.bits.specs.Bit.{bit};
 ghost use Rattle.decide.specs.Turn.{Collected};
-ghost use Rattle.decide.specs.Sets.{With, FirstWord, Picked, Joined, Put};
+ghost use Rattle.decide.specs.Sets.{With, Picked, Joined, Put};
 
 // Puts c into the set.
 pub fn add(set: &mut [u64; 4], c: usize)
@@ -15,25 +15,6 @@ pub fn add(set: &mut [u64; 4], c: usize)
 {
     let k = c / 64;
     set[k] = set[k] | (1u64 << ((c % 64) as u64));
-}
-
-// The first word that is not empty, or 4.
-fn first_word(set: &[u64; 4]) -> usize
-    ensures { λ k. ⌜ FirstWord (now (set .entry)) k ⌝ }
-{
-    if set[0] != 0 {
-        return 0;
-    }
-    if set[1] != 0 {
-        return 1;
-    }
-    if set[2] != 0 {
-        return 2;
-    }
-    if set[3] != 0 {
-        return 3;
-    }
-    4
 }
 
 // Takes the lowest member out of word k, which is d.
@@ -47,17 +28,28 @@ fn pick_in(set: &mut [u64; 4], k: usize, d: u64) -> usize
     k * 64 + j
 }
 
-// Takes the lowest member out of the set; 256 where it has none.
+// Takes the lowest member out of the set; 256 where it has none. The words are named one by one, so that the compiler keeps each in a register.
 pub fn pick(set: &mut [u64; 4]) -> usize
     requires { ⌜ length (now set) ≡ 4 ⌝ }
     ensures { λ r. ⌜ Picked (now (set .entry)) r (now (set .exit)) ⌝ }
 {
-    let k = first_word(set);
-    if k == 4 {
-        return 256;
+    let d0 = set[0];
+    if d0 != 0 {
+        return pick_in(set, 0, d0);
     }
-    let d = set[k];
-    pick_in(set, k, d)
+    let d1 = set[1];
+    if d1 != 0 {
+        return pick_in(set, 1, d1);
+    }
+    let d2 = set[2];
+    if d2 != 0 {
+        return pick_in(set, 2, d2);
+    }
+    let d3 = set[3];
+    if d3 != 0 {
+        return pick_in(set, 3, d3);
+    }
+    256
 }
 
 // The set with the members of set number s.

@@ -2,16 +2,18 @@
 ghost use Rattle.decide.specs.Stamp.{of-heads, of-triples, viewOf, Became, alone, named, ranked, Stamps};
 use table::Size;
 
-// The triples of symbol g that stand in the matrix get the rank k.
+// The triples of symbol g that stand in the matrix get the rank k. All have a cell, so that it need not be asked for each.
 pub fn stamp(triples: &mut [u16], size: Size, g: usize, bits: u64, k: u16)
     requires { ⌜ Stamps of-triples size g bits (now triples) ⌝ }
     ensures { λ _. ⌜ Became of-triples size (now (triples .entry)) (ranked k (named of-triples (alone g bits)) (viewOf of-triples size (now (triples .entry)))) (now (triples .exit)) ⌝ }
 {
+    let first = g * (size.states as usize);
+    let row = table::head_count(size); // the triples of a state lie so far from those of the next
     let mut d = bits;
     while d != 0 {
         let i = u64::trailing_zeros(d) as usize;
         d = d & (d - 1);
-        table::put_triple(triples, size, i / 8, g, i % 8, k);
+        triples[first + i / 8 * row + i % 8] = k;
     }
 }
 

@@ -39,10 +39,14 @@ fn rest(kind: u8, over: usize, under: usize, e: &[u64; 32]) -> u64
     if kind == 1 {
         return first;
     }
+    let second = e[under];
     if first == 0 {
         return 0; // no product is needed
     }
-    bits::product(first, e[under])
+    if second == 0 {
+        return 0;
+    }
+    bits::product(first, second)
 }
 
 // Rule i adds what is run after its step to the matrix of its class. A class that has more by it is noted in the set.

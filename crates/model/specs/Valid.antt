@@ -8,6 +8,7 @@ use lib.Dec.{leb, ltb}
 use Rattle.product.specs.Lists.{upTo, all}
 use Rattle.product.specs.Product.{Rule, symbol, pushed}
 use Rattle.model.specs.declared.Model.{Model}
+use Rattle.model.specs.declared.Shape.{Shape}
 use Rattle.model.specs.Model.{inRow, ruleAt, moveAt}
 
 abbrev pub within : (low high n : ℕ) → Bool
@@ -41,3 +42,19 @@ valid m =
     && startIn m
     && all (ruleIn m) (upTo (m .rules))
     && all (moveIn m) (upTo (m .moves))
+
+-- a record by its parts: what it says beside its arrays, and these
+abbrev pub ofParts : Shape → (rulerows moverows : List ℕ) → (shows finals : List Bool) → Model
+ofParts shape rulerows moverows shows finals = record {
+  symbols = shape .symbols;
+  states = shape .states;
+  events = shape .events;
+  startstate = shape .startstate;
+  startsymbol = shape .startsymbol;
+  finals = finals;
+  shows = shows;
+  rules = shape .rules;
+  rulerows = rulerows;
+  moves = shape .moves;
+  moverows = moverows;
+}

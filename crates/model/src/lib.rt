@@ -16,6 +16,17 @@ pub struct Model {
     pub moverows: [u8; 384],
 }
 
+// What a record says beside its arrays.
+pub struct Shape {
+    pub symbols: u8,
+    pub states: u8,
+    pub events: u8,
+    pub startstate: u8,
+    pub startsymbol: u8,
+    pub rules: usize,
+    pub moves: usize,
+}
+
 // A rule: g to nothing; g to g1; g to g1 on top of g2.
 pub enum Rule {
     Exit(usize),
@@ -41,5 +52,6 @@ mod step; // the step that a rule and a move make
 mod range; // which records are valid
 
 pub use range::is_valid;
+pub use range::parts_valid;
 pub use rows::rule_at;
 pub use step::next_state;

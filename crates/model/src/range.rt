@@ -1,9 +1,11 @@
 // Which model records are valid: every count within its size, and every number in use within its range.
+ghost use mathlib.Core.List.{[]};
 ghost use mathlib.Core.Path.{_≡_};
 ghost use Prim.Native.Nat.{_≤_};
 ghost use Rattle.product.specs.Lists.{all, upTo};
-ghost use Rattle.model.specs.Valid.{within, sizesIn, ruleRowIn, moveRowIn, valid};
+ghost use Rattle.model.specs.Valid.{within, sizesIn, ruleRowIn, moveRowIn, ofParts, valid};
 use crate::Model;
+use crate::Shape;
 use crate::rows::move_in;
 use crate::rows::rule_in;
 
@@ -57,21 +59,39 @@ fn moves_in(moverows: &[u8; 384], states: u8, events: u8, count: usize) -> bool
     true
 }
 
-// The record is valid; if not, it is refusal 6. The counts come first, so that the rows of rules and moves are there.
+// A record of these parts is valid, whatever its symbols show and whichever of its states are final; if not, it is refusal 6. Its rows are lent,
+// so that none is copied. The counts come first, so that the rows of rules and moves are there.
+pub fn parts_valid<'a>(shape: Shape, rulerows: &'a [u8; 1024], moverows: &'a [u8; 384]) -> bool
+    ensures { λ b. ⌜ b ≡ valid (ofParts shape (now (rulerows .entry)) (now (moverows .entry)) [] []) ⌝ }
+{
+    let symbols = shape.symbols as usize;
+    let states = shape.states as usize;
+    let events = shape.events as usize;
+    if !sizes_in(symbols, states, events, shape.rules, shape.moves) {
+        return false;
+    }
+    if shape.states <= shape.startstate {
+        return false;
+    }
+    if shape.symbols <= shape.startsymbol {
+        return false;
+    }
+    rules_in(rulerows, shape.symbols, shape.rules)
+        && moves_in(moverows, shape.states, shape.events, shape.moves)
+}
+
+// The record is valid.
 pub fn is_valid(m: Model) -> bool
     ensures { λ b. ⌜ b ≡ valid m ⌝ }
 {
-    let symbols = m.symbols as usize;
-    let states = m.states as usize;
-    let events = m.events as usize;
-    if !sizes_in(symbols, states, events, m.rules, m.moves) {
-        return false;
-    }
-    if m.states <= m.startstate {
-        return false;
-    }
-    if m.symbols <= m.startsymbol {
-        return false;
-    }
-    rules_in(&m.rulerows, m.symbols, m.rules) && moves_in(&m.moverows, m.states, m.events, m.moves)
+    let shape = Shape {
+        symbols: m.symbols,
+        states: m.states,
+        events: m.events,
+        startstate: m.startstate,
+        startsymbol: m.startsymbol,
+        rules: m.rules,
+        moves: m.moves,
+    };
+    parts_valid(shape, &m.rulerows, &m.moverows)
 }

@@ -1,23 +1,24 @@
 -- The matrices of the facts, cell by cell, row by row and symbol by symbol. Assumes nothing.
 use mathlib.Core.Bool.{Bool, true, false, cond, not, _&&_, _||_}
 use mathlib.Core.List.{List}
-use mathlib.Core.Path.{_≡_, refl, sym, ap, _∙_, subst, subst⁻¹}
-use Prim.Native.Nat.{ℕ, _+_, _*_, _/_, _%_, _^_, _<_, _≤_}
-use native.Mathlib.Decide.{ℕ-discrete}
-use native.Mathlib.Nat.{mul-one, add-comm, le-trans, mul-le-mul-left, mul-le-mul-right}
+use mathlib.Core.Path.{_≡_, refl, sym, ap, _∙_, subst, subst⁻¹, fun-ext}
+use Prim.Native.Nat.{ℕ, _+_, _-_, _*_, _/_, _%_, _^_, _<_, _≤_}
+use native.Mathlib.Decide.{ℕ-discrete, decLt}
+use native.Mathlib.Nat.{mod-lt, mul-one, add-comm, le-trans, mul-le-mul-left, mul-le-mul-right}
 use native.Mathlib.Numerals.{add-one}
 use native.Mathlib.Omega.{arith}
 use lib.Arith.{digits-lt, digits-div, digits-mod}
 use lib.Bits.{bitOr}
 use lib.Dec.{T, eqb, ltb, eqb→eq, ltb→lt, lt→ltb, eqb-refl}
 use lib.ListN.{length, getD, set}
+use lib.Pow.{pow-pos}
 use lib.Seq.{getD-set-same, getD-set-other}
 use borrow.Author.Tests.{eq-eqb, ne-eqb, lt-ltb}
 use Rattle.product.specs.Table.{absent}
 use Rattle.product.proofs.Lists.{and-left, and-right, both, same-truth}
 use Rattle.bits.specs.Bit.{bit}
 use Rattle.bits.specs.Matrix.{entry, mat, some}
-use Rattle.bits.proofs.Bit.{bit-zero}
+use Rattle.bits.proofs.Bit.{bit-zero, bit-or, bit-past, bit-shl, bit-shl-below}
 use Rattle.bits.proofs.Set.{bit-set}
 use Rattle.bits.proofs.Some.{some-of, of-some}
 use Rattle.table.specs.Cells.{headCount, tripleCount, headCell, tripleCell, headIn, tripleIn}
@@ -56,6 +57,45 @@ module _ (m : ℕ) (cells : List ℕ) (at apart k : ℕ) where
 
   pub rowed-all : (n e r : ℕ) → e ≡ n → Rowed e r → Rowed n r
   rowed-all n e r y = subst (λ e. Rowed e r) y
+
+-- a row that begins at bit 0: in an empty word, and then moved up by k
+module _ (cells : List ℕ) (at apart n : ℕ) where
+  pub rowed-alone : (r : ℕ) → Rowed 0 cells at apart 0 n r → (i : ℕ) → bit r i ≡ present cells at apart 0 n i
+  rowed-alone r h i = h i ∙ ap (λ b. b || present cells at apart 0 n i) (bit-zero i)
+
+  abbrev there : ℕ → Bool
+  there e = not (eqb (getD cells (at + e * apart) 0) absent)
+
+  within : (k i : ℕ) → present cells at apart 0 n i ≡ present cells at apart k n (i + k)
+  unfolding present
+  within k i = ap (some n) (fun-ext (λ e. ap (λ b. there e && b) (go e (ℕ-discrete (0 + e) i))))
+    where
+      go : (e : ℕ) → Dec (0 + e ≡ i) → eqb (0 + e) i ≡ eqb (k + e) (i + k)
+      go e (yes y) = eq-eqb (0 + e) i y ∙ sym (eq-eqb (k + e) (i + k) (omega arith))
+      go e (no y) = ne-eqb (0 + e) i y ∙ sym (ne-eqb (k + e) (i + k) (λ z. y (omega arith)))
+
+  outside : (k i : ℕ) → ((e : ℕ) → e < n → k + e ≡ i → ⊥) → false ≡ present cells at apart k n i
+  unfolding present
+  outside k i none = same-truth false (present cells at apart k n i) (λ t. absurd t) to
+    where
+      to : T (present cells at apart k n i) → T false
+      to t =
+          let (e, l, u) = of-some n (λ e. there e && eqb (k + e) i) t in
+          none e l (eqb→eq (k + e) i (and-right (there e) (eqb (k + e) i) u))
+
+  row-moved : (k r : ℕ) → k + n ≤ 64 → ((i : ℕ) → bit r i ≡ present cells at apart 0 n i) → (i : ℕ) → bit ((r * 2 ^ k) % 2 ^ 64) i ≡ present cells at apart k n i
+  row-moved k r few h i = go (decLt i k) (decLt i 64)
+    where
+      go : Dec (i < k) → Dec (i < 64) → bit ((r * 2 ^ k) % 2 ^ 64) i ≡ present cells at apart k n i
+      go (yes l) d = bit-shl-below r 64 k i (omega arith) l ∙ outside k i (λ e j y. omega arith)
+      go (no l) (yes d) =
+          let y : i - k + k ≡ i = omega arith in
+          subst (λ i. bit ((r * 2 ^ k) % 2 ^ 64) i ≡ present cells at apart k n i) y
+          (bit-shl r 64 k (i - k) (omega arith) ∙ h (i - k) ∙ within k (i - k))
+      go (no l) (no d) = bit-past ((r * 2 ^ k) % 2 ^ 64) 64 i (mod-lt (r * 2 ^ k) (pow-pos 64)) (omega arith) ∙ outside k i (λ e j y. omega arith)
+
+  pub rowed-moved : (m k r : ℕ) → k + n ≤ 64 → ((i : ℕ) → bit r i ≡ present cells at apart 0 n i) → Rowed m cells at apart k n (bitOr m ((r * 2 ^ k) % 2 ^ 64))
+  rowed-moved m k r few h i = bit-or m ((r * 2 ^ k) % 2 ^ 64) i ∙ ap (λ b. bit m i || b) (row-moved k r few h i)
 
 -- a fact that is present is in range
 pub triple-in : (G Q : ℕ) (ts : List ℕ) (q g e : ℕ) → T (not (eqb (tripleIn G Q ts q g e) absent)) → (q < Q) × (e < Q)
@@ -160,7 +200,7 @@ module _ (G Q : ℕ) (hs : List ℕ) (g : ℕ) where
   heads-are few l m h q = same-truth (mat m 0 q) (not (eqb (headIn G Q hs q g) absent)) to from
     where
       bits : bit m (0 * 8 + q) ≡ tops (0 * 8 + q)
-      bits = h (0 * 8 + q) ∙ ap (λ b. b || tops (0 * 8 + q)) (bit-zero (0 * 8 + q))
+      bits = rowed-alone hs g G Q m h (0 * 8 + q)
 
       to : T (mat m 0 q) → T (not (eqb (headIn G Q hs q g) absent))
       to t =

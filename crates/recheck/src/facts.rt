@@ -2,7 +2,7 @@
 ghost use mathlib.Core.Bool.{not, _&&_, _||_};
 ghost use mathlib.Core.List.{[]};
 ghost use mathlib.Core.Path.{_≡_};
-ghost use Prim.Native.Nat.{ℕ, _<_, _≤_};
+ghost use Prim.Native.Nat.{ℕ, _+_, _<_, _≤_};
 ghost use lib.Dec.{eqb};
 ghost use lib.ListN.{length};
 ghost use Rattle.product.specs.Facts.{head, triple};
@@ -39,6 +39,38 @@ fn with_row(m: u64, cells: &[u16], at: usize, apart: usize, k: usize, n: usize) 
     r
 }
 
+// Eight cells from `at` on, as a row: their number is fixed, so that the compiler takes them without a loop.
+fn row_of_eight(cells: &[u16], at: usize) -> u64
+    requires { ⌜ at + 8 ≤ length (now cells) ⌝ }
+    ensures { λ r. ⌜ ((i : ℕ) → bit r i ≡ present (now (cells .entry)) at 1 0 8 i) ⌝ }
+{
+    let mut r: u64 = 0;
+    let mut e: usize = 0;
+    while e < 8 {
+        r = with_cell(r, cells[at + e], e);
+        e += 1;
+    }
+    r
+}
+
+// The triples of symbol g where there are eight states, the most: each row is gathered by itself, and then put in its place.
+fn triples_of_eight(triples: &[u16], size: Size, g: usize) -> u64
+    requires { ⌜ g < size .symbols ⌝ }
+    requires { ⌜ size .states ≡ 8 ⌝ }
+    requires { ⌜ tripleCount (size .symbols) (size .states) ≤ length (now triples) ⌝ }
+    ensures { λ r. ⌜ ((q e : ℕ) → mat r q e ≡ inTable size [] (now (triples .entry)) (triple q g e)) ⌝ }
+{
+    let symbols = size.symbols as usize;
+    let mut m: u64 = 0;
+    let mut q: usize = 0;
+    while q < 8 {
+        let row = row_of_eight(triples, (q * symbols + g) * 8);
+        m = m | (row << ((q * 8) as u64));
+        q += 1;
+    }
+    m
+}
+
 // The triples of symbol g: a row for each state.
 fn triples_of(triples: &[u16], size: Size, g: usize) -> u64
     requires { ⌜ g < size .symbols ⌝ }
@@ -46,6 +78,9 @@ fn triples_of(triples: &[u16], size: Size, g: usize) -> u64
     requires { ⌜ tripleCount (size .symbols) (size .states) ≤ length (now triples) ⌝ }
     ensures { λ r. ⌜ ((q e : ℕ) → mat r q e ≡ inTable size [] (now (triples .entry)) (triple q g e)) ⌝ }
 {
+    if size.states == 8 {
+        return triples_of_eight(triples, size, g);
+    }
     let states = size.states as usize;
     let symbols = size.symbols as usize;
     let mut m: u64 = 0;

@@ -14,13 +14,14 @@ use table::Size;
 const LONGEST: usize = 45056;
 
 // What is read so far beside the ranks: the header, and how many lines of each kind came. The ranks are collected in two lent arrays.
+// The lines are counted in numbers of the machine's width: so the compiler keeps each count in a register of its own.
 pub struct Tally {
     pub begun: u8,
     pub rounds: u16,
     pub headcount: u32,
     pub triplecount: u32,
-    pub heads: u32,
-    pub triples: u32,
+    pub heads: usize,
+    pub triples: usize,
 }
 
 // What a line does: the document's number of its refusal, or 0, and the tally after it.
@@ -164,16 +165,16 @@ fn take_line(heads: &mut [u16], triples: &mut [u16], size: Size, t: Tally, l: Li
 }
 
 // Whether the header and the lines agree.
-fn agrees(begun: u8, heads: u32, headcount: u32, triples: u32, triplecount: u32) -> u8
+fn agrees(begun: u8, heads: usize, headcount: u32, triples: usize, triplecount: u32) -> u8
     ensures { λ r. ⌜ r ≡ agreement begun heads headcount triples triplecount ⌝ }
 {
     if begun == 0 {
         return 3;
     }
-    if heads != headcount {
+    if heads != headcount as usize {
         return 3;
     }
-    if triples != triplecount {
+    if triples != triplecount as usize {
         return 3;
     }
     0

@@ -149,7 +149,7 @@ pub fn class_of(rulerows: &[u8; 1024], r: usize) -> usize
 }
 
 // The states to which rule r can step from those in `from`.
-pub fn states_after<'a>(rulerows: &'a [u8; 1024], tg: &'a [u64; 256], r: usize, from: u64) -> u64
+pub fn states_after(rulerows: &[u8; 1024], tg: &[u64; 256], r: usize, from: u64) -> u64
     ensures { λ x. ⌜ x ≡ statesAfter (now (rulerows .entry)) (now (tg .entry)) r from ⌝ }
 {
     let c = class_of(rulerows, r);

@@ -1,6 +1,6 @@
 -- `closed::composed` meets its contract. Assumes nothing.
 use borrow.Author.Needs.{needs}
-use Rattle.closed.proofs.Entries.{none-left, none-right}
+use Rattle.bits.proofs.Matrix.{none-left, none-right}
 use Rattle.closed.proofs.composed.Statement.{statement}
 use Rattle.closed.proofs.composed.Tie as tie
 

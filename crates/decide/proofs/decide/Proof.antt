@@ -1,16 +1,16 @@
 -- `decide::decide` meets its contract. Assumes nothing.
 use borrow.Author.Needs.{needs}
-use Rattle.decide.proofs.Tested.{invalid, short, able, done}
+use Rattle.decide.proofs.Tested.{of-parts, invalid, short, able, done}
 use Rattle.decide.proofs.decide.Statement.{statement}
 use Rattle.decide.proofs.decide.Tie as tie
 
-is-valid-requires : tie.Need-is-valid-requires
-is-valid-requires c κs = search needs
+parts-valid-requires : tie.Need-parts-valid-requires
+parts-valid-requires c κs = search needs
 
 returns : tie.Need-returns
 returns c =
-    let a = c .before .before .before .before .args in
-    invalid (a .m) (a .budget) (a .heads .now) (a .triples .now) (c .before .is-valid .ensures) (c .if1 .taken)
+    let a = c .before .before .before .before .before .before .before .args in
+    invalid (a .t1) (a .budget) (a .heads .now) (a .triples .now) (of-parts (a .t1) (c .before .parts-valid .ensures)) (c .if1 .taken)
 
 long-enough-requires : tie.Need-long-enough-requires
 long-enough-requires c κs = search needs
@@ -23,13 +23,13 @@ same-length-2 c = search needs
 
 returns-2 : tie.Need-returns-2
 returns-2 c =
-    let a = c .before .before .before .before .before .before .before .before .args in
-    short (a .m) (a .budget) (a .heads .now) (a .triples .now) (c .before .before .before .before .before .is-valid .ensures) (c .before .before .before .before .if1 .left) (c .before .long-enough .ensures) (c .if2 .taken)
+    let a = c .before .before .before .before .before .before .before .before .before .before .before .args in
+    short (a .t1) (a .budget) (a .heads .now) (a .triples .now) (of-parts (a .t1) (c .before .before .before .before .before .parts-valid .ensures)) (c .before .before .before .before .if1 .left) (c .before .long-enough .ensures) (c .if2 .taken)
 
 run-requires : tie.Need-run-requires
 run-requires c κs =
-    let a = c .before .before .before .before .before .before .before .before .before .before .args in
-    able (a .m) (a .budget) (a .heads .now) (a .triples .now) (c .before .before .before .before .before .before .before .is-valid .ensures) (c .before .before .before .before .before .before .if1 .left) (c .before .before .before .long-enough .ensures) (c .before .before .if2 .left)
+    let a = c .before .before .before .before .before .before .before .before .before .before .before .before .before .before .before .before .before .before .args in
+    able (a .t1) (a .budget) (a .heads .now) (a .triples .now) (of-parts (a .t1) (c .before .before .before .before .before .before .before .before .before .before .before .before .parts-valid .ensures)) (c .before .before .before .before .before .before .before .before .before .before .before .if1 .left) (c .before .before .before .before .before .before .before .before .long-enough .ensures) (c .before .before .before .before .before .before .before .if2 .left)
 
 same-length-3 : tie.Need-same-length-3
 same-length-3 c = search needs
@@ -39,14 +39,14 @@ same-length-4 c = search needs
 
 returns-3 : tie.Need-returns-3
 returns-3 c =
-    let a = c .before .before .before .before .before .before .before .before .before .before .before .before .before .before .before .args in
-    done (a .m) (a .budget) (a .heads .now) (a .triples .now) (c .before .before .before .before .before .before .before .before .before .before .before .before .is-valid .ensures) (c .before .before .before .before .before .before .before .before .before .before .before .if1 .left) (c .before .before .before .before .before .before .before .before .long-enough .ensures) (c .before .before .before .before .before .before .before .if2 .left) (c .before .before .before .before .run .ensures)
+    let a = c .before .before .before .before .before .before .before .before .before .before .before .before .before .before .before .before .before .before .before .before .before .before .before .args in
+    done (a .t1) (a .budget) (a .heads .now) (a .triples .now) (of-parts (a .t1) (c .before .before .before .before .before .before .before .before .before .before .before .before .before .before .before .before .before .parts-valid .ensures)) (c .before .before .before .before .before .before .before .before .before .before .before .before .before .before .before .before .if1 .left) (c .before .before .before .before .before .before .before .before .before .before .before .before .before .long-enough .ensures) (c .before .before .before .before .before .before .before .before .before .before .before .before .if2 .left) (c .before .before .before .before .run .ensures)
 
 pub decide-spec : {M : Type 1} → statement M
 decide-spec =
     tie.close
     (tie.spec
-    is-valid-requires
+    parts-valid-requires
     returns
     long-enough-requires
     same-length

@@ -28,7 +28,7 @@ shl-changed c = omega (arith, small-symbol _ _ _ _ _ _ _ _ _ _ _ _ _ _ 0 (c .bef
 
 -- src/rounds.rt:141:5
 loop-holds : tie.Need-loop-holds Inv-loop μ-loop
-loop-holds c = (omega arith, refl, refl, empty-first, going-first _ _ _ _ _ _ _ _ _ _ _ _ _ _ _ (c .before .before .pre))
+loop-holds c = (omega arith, refl, refl, empty-first 32, going-first _ _ _ _ _ _ _ _ _ _ _ _ _ _ _ (c .before .before .pre))
 
 -- src/rounds.rt:142:12
 look-requires : tie.Need-look-requires Inv-loop μ-loop

@@ -1,43 +1,62 @@
-use Prim.Native.Nat.{_<_}
-use mathlib.Core.Path.{refl}
-use Rattle.decide.proofs.Members.{picked-none, positive}
-use native.Mathlib.Omega.{arith}
+-- `decide::sets::pick` meets its contract. Assumes nothing.
 use borrow.Author.Needs.{needs}
+use Rattle.decide.proofs.Members.{picked-none}
 use Rattle.decide.proofs.sets.pick.Statement.{statement}
 use Rattle.decide.proofs.sets.pick.Tie as tie
-use Rattle.decide.proofs.sets.pick.Reads as reads
-use Rattle.decide.proofs.sets.pick.Lts as lts
-use Rattle.decide.proofs.sets.first_word.Reads as first-word-reads
-use Rattle.decide.proofs.sets.pick_in.Reads as pick-in-reads
 
--- src/sets.rt:55:9
-first-word-requires : tie.Need-first-word-requires
-first-word-requires c κs = search needs
+element-copy-out-d0 : tie.Need-element-copy-out-d0
+element-copy-out-d0 c = search needs
 
--- src/sets.rt:57:9
-returns : tie.Need-returns
-returns c = picked-none _ (c .before .before .before .pre) (rw (c .if1 .taken) at (c .before .first-word .ensures))
-
--- src/sets.rt:59:13
-mul-d : tie.Need-mul-d
-mul-d c = search needs
-
--- src/sets.rt:59:13
-element-copy-out-d : tie.Need-element-copy-out-d
-element-copy-out-d c = search needs
-
--- src/sets.rt:60:5
 pick-in-requires : tie.Need-pick-in-requires
-pick-in-requires c κs =
-    let f = c .before .before .before .first-word .ensures in
-    let l : c .before .before .before .first-word .result < 4 = omega (arith, f .small, c .before .before .if1 .left) in
-    (c .before .before .before .before .before .pre, (l, positive _ (f .there l), refl))
+pick-in-requires c κs = search needs
 
--- src/sets.rt:51:1
+returns : tie.Need-returns
+returns c = search needs
+
+element-copy-out-d1 : tie.Need-element-copy-out-d1
+element-copy-out-d1 c = search needs
+
+pick-in-requires-2 : tie.Need-pick-in-requires-2
+pick-in-requires-2 c κs = search needs
+
 returns-2 : tie.Need-returns-2
 returns-2 c = search needs
+
+element-copy-out-d2 : tie.Need-element-copy-out-d2
+element-copy-out-d2 c = search needs
+
+pick-in-requires-3 : tie.Need-pick-in-requires-3
+pick-in-requires-3 c κs = search needs
+
+returns-3 : tie.Need-returns-3
+returns-3 c = search needs
+
+element-copy-out-d3 : tie.Need-element-copy-out-d3
+element-copy-out-d3 c = search needs
+
+pick-in-requires-4 : tie.Need-pick-in-requires-4
+pick-in-requires-4 c κs = search needs
+
+returns-4 : tie.Need-returns-4
+returns-4 c = search needs
+
+returns-5 : tie.Need-returns-5
+returns-5 c = picked-none _ (c .before .before .before .before .before .before .before .before .pre) (c .before .before .before .before .before .before .if1 .left) (c .before .before .before .before .if2 .left) (c .before .before .if3 .left) (c .if4 .left)
 
 pub pick-spec : {M : Type 1} → statement M
 pick-spec =
     tie.close
-    (tie.spec first-word-requires returns mul-d element-copy-out-d pick-in-requires returns-2)
+    (tie.spec
+    element-copy-out-d0
+    pick-in-requires
+    returns
+    element-copy-out-d1
+    pick-in-requires-2
+    returns-2
+    element-copy-out-d2
+    pick-in-requires-3
+    returns-3
+    element-copy-out-d3
+    pick-in-requires-4
+    returns-4
+    returns-5)

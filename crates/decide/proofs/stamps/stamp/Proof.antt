@@ -1,53 +1,88 @@
--- `engine::stamp` meets its contract. Assumes nothing.
-use lib.Count.{trailing-le}
-use Rattle.bits.proofs.Lowest.{cleared-less}
-use Rattle.decide.proofs.Stamped.{Left, left-first, triples-next, triples-last}
-use Rattle.decide.specs.Stamp.{of-triples}
-use borrow.Author.Needs.{needs}
+-- `decide::stamps::stamp` meets its contract. Assumes nothing.
+use mathlib.Core.Path.{_≡_, refl}
+use Prim.Native.Nat.{_+_, _*_, _/_, _%_, _<_}
 use native.Mathlib.Omega.{arith}
+use lib.Count.{trailing-le}
+use lib.ListN.{length}
+use borrow.Author.Needs.{needs}
+use Rattle.table.specs.declared.Size.{Size}
+use Rattle.table.proofs.Bytes.{cell-small}
+use Rattle.bits.proofs.Lowest.{lowest, cleared-less}
+use Rattle.decide.specs.Stamp.{of-triples, Stamps}
+use Rattle.decide.proofs.Stamped.{Left, left-first, cell-in, triples-next, triples-last}
 use Rattle.decide.proofs.stamps.stamp.Statement.{statement}
 use Rattle.decide.proofs.stamps.stamp.Tie as tie
-use Rattle.decide.proofs.stamps.stamp.Reads as reads
-use Rattle.decide.proofs.stamps.stamp.Lts as lts
-use Rattle.table.proofs.put_triple.Reads as put-triple-reads
 
+-- for every size of which `first` and `row` are the counts
 abbrev Inv-loop : tie.InvT-loop
-Inv-loop triples₀ size g bits k d₀ triples d = Left of-triples size k g bits triples₀ d triples
+Inv-loop triples₀ g bits k first row d₀ triples d =
+    (z : Size) → Stamps of-triples z g bits triples₀ → first ≡ g * z .states → row ≡ z .states * z .symbols → Left of-triples z k g bits triples₀ d triples
 
 abbrev μ-loop : tie.MeasureT-loop
-μ-loop triples₀ size g bits k d₀ triples d = d
+μ-loop triples₀ g bits k first row d₀ triples d = d
 
--- src/lib.rt:18:5
+cast-first : tie.Need-cast-first Inv-loop μ-loop
+cast-first c = search needs
+
+mul-first : tie.Need-mul-first Inv-loop μ-loop
+mul-first c =
+    let s = c .before .before in
+    omega (arith, s .pre .symbol, cell-small {a = s .args .g} {b = s .args .size .states} {c = 0} 255 (omega (arith, s .pre .symbol)) (omega arith) (omega arith))
+
+head-count-requires : tie.Need-head-count-requires Inv-loop μ-loop
+head-count-requires c κs = search needs
+
 loop-holds : tie.Need-loop-holds Inv-loop μ-loop
-loop-holds c = left-first _ _ _ _ _ _ (search needs)
+loop-holds c z h e f = left-first _ _ _ _ _ _ (search needs)
 
--- src/lib.rt:19:17
 cast-i : tie.Need-cast-i Inv-loop μ-loop
 cast-i c = omega (arith, trailing-le 64 (c .before .loop .d))
 
--- src/lib.rt:20:18
 sub-d : tie.Need-sub-d Inv-loop μ-loop
 sub-d c = search needs
 
--- src/lib.rt:21:9
-put-triple-requires : tie.Need-put-triple-requires Inv-loop μ-loop
-put-triple-requires c κs = search needs
+mul-triples : tie.Need-mul-triples Inv-loop μ-loop
+mul-triples c =
+    let i = c .before .loop .inv _ (c .before .before .before .before .before .pre) refl (c .before .before .head-count .ensures) in
+    let h = cell-in _ _ _ _ _ (c .before .before .before .before .before .pre) refl (c .before .before .head-count .ensures) _ _ (omega arith) i in
+    let l = i .as-long in
+    search needs
 
--- src/lib.rt:18:5
+add-triples : tie.Need-add-triples Inv-loop μ-loop
+add-triples c =
+    let i = c .before .loop .inv _ (c .before .before .before .before .before .pre) refl (c .before .before .head-count .ensures) in
+    let h = cell-in _ _ _ _ _ (c .before .before .before .before .before .pre) refl (c .before .before .head-count .ensures) _ _ (omega arith) i in
+    let l = i .as-long in
+    search needs
+
+add-triples-2 : tie.Need-add-triples-2 Inv-loop μ-loop
+add-triples-2 c =
+    let i = c .before .loop .inv _ (c .before .before .before .before .before .pre) refl (c .before .before .head-count .ensures) in
+    let h = cell-in _ _ _ _ _ (c .before .before .before .before .before .pre) refl (c .before .before .head-count .ensures) _ _ (omega arith) i in
+    let l = i .as-long in
+    search needs
+
+mul-triples-2 : tie.Need-mul-triples-2 Inv-loop μ-loop
+mul-triples-2 c =
+    let i = c .before .loop .inv _ (c .before .before .before .before .before .pre) refl (c .before .before .head-count .ensures) in
+    let h = cell-in _ _ _ _ _ (c .before .before .before .before .before .pre) refl (c .before .before .head-count .ensures) _ _ (omega arith) i in
+    let l = i .as-long in
+    search needs
+
+slice-write-triples : tie.Need-slice-write-triples Inv-loop μ-loop
+slice-write-triples c = cell-in _ _ _ _ _ (c .before .before .before .before .before .pre) refl (c .before .before .head-count .ensures) _ _ (omega arith) (c .before .loop .inv _ (c .before .before .before .before .before .pre) refl (c .before .before .head-count .ensures))
+
 loop-less : tie.Need-loop-less Inv-loop μ-loop
-loop-less c = cleared-less (c .before .before .before .before .before .loop .d) (omega arith)
+loop-less c = cleared-less (c .before .loop .d) (omega arith)
 
--- src/lib.rt:18:5
 loop-again : tie.Need-loop-again Inv-loop μ-loop
-loop-again c = triples-next _ _ _ _ _ (c .before .before .before .before .before .before .before .pre) _ _ _ (omega arith) (c .before .before .before .before .before .loop .inv) (c .before .before .put-triple .ensures)
+loop-again c z h e f = triples-next _ _ _ _ _ h e f _ _ (omega arith) (c .before .loop .inv z h e f)
 
--- src/lib.rt:13:1
 same-length : tie.Need-same-length Inv-loop μ-loop
-same-length c = search needs
+same-length c = (c .before .loop .inv _ (c .before .before .before .before .before .pre) refl (c .before .before .head-count .ensures)) .as-long
 
--- src/lib.rt:13:1
 returns : tie.Need-returns Inv-loop μ-loop
-returns c = triples-last _ _ _ _ _ (c .before .before .before .pre) (search needs) _ _ (omega arith) (c .before .loop .inv)
+returns c = triples-last _ _ _ _ _ (c .before .before .before .before .before .pre) (search needs) _ _ (omega arith) (c .before .loop .inv _ (c .before .before .before .before .before .pre) refl (c .before .before .head-count .ensures))
 
 pub stamp-spec : {M : Type 1} → statement M
 stamp-spec =
@@ -55,10 +90,17 @@ stamp-spec =
     (tie.spec
     Inv-loop
     μ-loop
+    cast-first
+    mul-first
+    head-count-requires
     loop-holds
     cast-i
     sub-d
-    put-triple-requires
+    mul-triples
+    add-triples
+    add-triples-2
+    mul-triples-2
+    slice-write-triples
     loop-less
     loop-again
     same-length

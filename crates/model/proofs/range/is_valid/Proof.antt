@@ -1,70 +1,15 @@
 -- `model::range::is_valid` meets its contract. Assumes nothing.
-use mathlib.Core.Bool.{Bool, false, not}
-use mathlib.Core.Path.{_≡_, sym, _∙_}
-use Prim.Native.Nat.{_≤_}
-use borrow.Author.Tests.{lt-ltb, le-ltb}
 use borrow.Author.Needs.{needs}
-use Rattle.model.specs.declared.Model.{Model}
-use Rattle.model.specs.Valid.{sizesIn, valid}
-use Rattle.model.proofs.Counted.{passed, failed}
-use Rattle.model.proofs.Valid.{few-rows}
+use Rattle.model.specs.Valid.{valid}
 use Rattle.model.proofs.range.is_valid.Statement.{statement}
 use Rattle.model.proofs.range.is_valid.Tie as tie
 
--- the rows that the loops read are there
-few : (m : Model) {b : Bool} → b ≡ sizesIn (m .symbols) (m .states) (m .events) (m .rules) (m .moves) → not b ≡ false → (m .rules ≤ 256) × (m .moves ≤ 128)
-few m e n = few-rows (m .symbols) (m .states) (m .events) (m .rules) (m .moves) (passed e n)
-
-cast-symbols : tie.Need-cast-symbols
-cast-symbols c = search needs
-
-cast-states : tie.Need-cast-states
-cast-states c = search needs
-
-cast-events : tie.Need-cast-events
-cast-events c = search needs
-
-sizes-in-requires : tie.Need-sizes-in-requires
-sizes-in-requires c κs = search needs
+parts-valid-requires : tie.Need-parts-valid-requires
+parts-valid-requires c κs = search needs
 
 returns : tie.Need-returns
 unfolding valid
-returns c = rw (failed (c .before .sizes-in .ensures) (c .if1 .taken))
-
-returns-2 : tie.Need-returns-2
-unfolding valid
-returns-2 c = rw (passed (c .before .before .sizes-in .ensures) (c .before .if1 .left), le-ltb _ _ (c .if2 .taken))
-
-returns-3 : tie.Need-returns-3
-unfolding valid
-returns-3 c = rw (passed (c .before .before .before .sizes-in .ensures) (c .before .before .if1 .left), lt-ltb _ _ (c .before .if2 .left), le-ltb _ _ (c .if3 .taken))
-
-rules-in-requires : tie.Need-rules-in-requires
-rules-in-requires c κs = few (c .before .before .before .before .before .before .args .t1) (c .before .before .before .before .before .sizes-in .ensures) (c .before .before .before .before .if1 .left) .0
-
-moves-in-requires : tie.Need-moves-in-requires
-moves-in-requires c κs = few (c .before .before .before .before .before .before .before .before .before .before .args .t1) (c .before .before .before .before .before .before .before .before .before .sizes-in .ensures) (c .before .before .before .before .before .before .before .before .if1 .left) .1
-
-returns-4 : tie.Need-returns-4
-unfolding valid
-returns-4 c = rw (passed (c .before .before .before .before .before .before .before .before .before .before .sizes-in .ensures) (c .before .before .before .before .before .before .before .before .before .if1 .left), lt-ltb _ _ (c .before .before .before .before .before .before .before .before .if2 .left), lt-ltb _ _ (c .before .before .before .before .before .before .before .if3 .left), sym (c .before .before .before .before .rules-in .ensures) ∙ c .before .before .before .if4 .taken) (c .moves-in .ensures)
-
-returns-5 : tie.Need-returns-5
-unfolding valid
-returns-5 c = rw (passed (c .before .before .before .before .before .before .before .sizes-in .ensures) (c .before .before .before .before .before .before .if1 .left), lt-ltb _ _ (c .before .before .before .before .before .if2 .left), lt-ltb _ _ (c .before .before .before .before .if3 .left), sym (c .before .rules-in .ensures) ∙ c .if4 .left) (c .if4 .left)
+returns c = c .parts-valid .ensures
 
 pub is-valid-spec : {M : Type 1} → statement M
-is-valid-spec =
-    tie.close
-    (tie.spec
-    cast-symbols
-    cast-states
-    cast-events
-    sizes-in-requires
-    returns
-    returns-2
-    returns-3
-    rules-in-requires
-    moves-in-requires
-    returns-4
-    returns-5)
+is-valid-spec = tie.close (tie.spec parts-valid-requires returns)
