@@ -1,22 +1,37 @@
 // The answers of the calls, each as the line that says it: a word and two numbers. A match that only makes numbers is cheap to prove; one that
 // writes in each of its branches is not.
+use crate::show;
 use decide::Decision;
 use reader::Reading;
 use recheck::Recheck;
 use replay::Replayed;
-use show::ACCEPTED;
-use show::CHECK_REFUSED;
-use show::NOT_CLOSED;
-use show::REFUSED;
-use show::REPLAY_REFUSED;
-use show::REPLAYED;
-use show::SAFE;
-use show::Said;
-use show::TRACE;
-use show::TRACE_CUT;
-use show::TRACE_REFUSED;
-use show::VIOLATION;
 use trace::Traced;
+
+// The words, by their places in the table below.
+pub const ACCEPTED: usize = 0;
+
+const CHECK_REFUSED: usize = 1;
+
+const NOT_CLOSED: usize = 2;
+
+const VIOLATION: usize = 3;
+
+const SAFE: usize = 4;
+
+const REFUSED: usize = 5;
+
+const TRACE: usize = 6;
+
+pub const TRACE_REFUSED: usize = 7;
+
+const TRACE_CUT: usize = 8;
+
+const REPLAYED: usize = 9;
+
+const REPLAY_REFUSED: usize = 10;
+
+// A word and two numbers.
+pub struct Said(pub usize, pub u64, pub u64);
 
 pub fn of_reading(r: Reading) -> Said {
     match r {
@@ -68,4 +83,37 @@ pub fn of_replay(r: Replayed) -> Said {
         Replayed::Short => Said(REPLAY_REFUSED, 7, 0),
         Replayed::Bad(k) => Said(REPLAY_REFUSED, 12, k as u64),
     }
+}
+
+fn length(k: usize) -> usize {
+    let lengths = [8, 13, 10, 9, 4, 7, 5, 13, 9, 8, 14];
+    if k < 11 {
+        return lengths[k];
+    }
+    0
+}
+
+// Word k of the table, where each word has 14 bytes, and two numbers.
+fn write(words: &[u8], k: usize, a: u64, b: u64) {
+    let n = length(k);
+    if 10 < k {
+        return;
+    }
+    if 14 < n {
+        return;
+    }
+    let i = k * 14;
+    let e = i + n;
+    if e <= words.len() {
+        show::line(&words[i..e], a, b);
+    }
+}
+
+pub fn show(s: Said) {
+    write(
+        b"accepted      check refused not closed    violation     safe          refused       trace         trace refused trace cut     replayed      replay refused",
+        s.0,
+        s.1,
+        s.2,
+    );
 }

@@ -3,16 +3,17 @@
 // is only read; else also the budget, the room and which array is too short (1 heads, 2 triples, 3 the replay's stack). tests/expected.py
 // makes it, and says by the second program what is to be written.
 ghost use Prim.Native.Nat.{_≤_};
+use answers::Said;
+use answers::TRACE_REFUSED;
 use libc::STDIN_FILENO;
 use model::Model;
 use numbers::Numbers;
 use replay::Replayed;
-use show::Said;
-use show::TRACE_REFUSED;
 use table::Size;
 
 mod answers; // each answer as a line
 mod reading; // how a reading ends
+mod show; // what is written
 
 fn whole(n: u32) -> usize {
     n as usize
@@ -20,7 +21,7 @@ fn whole(n: u32) -> usize {
 
 fn check<'a>(m: Model, heads: &'a [u16], triples: &'a [u16]) {
     let r = recheck::check_table(m, heads, triples);
-    show::say(answers::of_check(r));
+    answers::show(answers::of_check(r));
 }
 
 // The table's cells, and how many of all cells are still as they were.
@@ -44,7 +45,7 @@ fn settled<'a>(m: Model, heads: &'a [u16], triples: &'a [u16]) {
 
 fn decided(m: Model, budget: u32, heads: &mut [u16], triples: &mut [u16]) {
     let d = decide::decide(m, budget, heads, triples);
-    show::say(answers::of_decision(d));
+    answers::show(answers::of_decision(d));
     settled(m, heads, triples);
 }
 
@@ -63,7 +64,7 @@ fn show_steps(steps: &[u16]) {
 }
 
 fn show_replay(r: Replayed, stack: &[u8]) {
-    show::say(answers::of_replay(r));
+    answers::show(answers::of_replay(r));
     show::line(b"cleared", show::bytes(stack, 0, 0), 0);
 }
 
@@ -87,7 +88,7 @@ fn traced(
 ) {
     let t = trace::trace(m, budget, heads, triples, steps);
     let said = answers::of_trace(t);
-    show::say(said);
+    answers::show(said);
     replayed(m, steps, stored(said), stack);
 }
 

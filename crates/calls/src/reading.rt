@@ -1,8 +1,9 @@
 // How the reading of a model text ends, and the whole record of an accepted one.
 use crate::answers;
+use crate::answers::ACCEPTED;
+use crate::show;
 use model::Model;
 use reader::ModelRead;
-use show::ACCEPTED;
 
 fn sizes(m: Model) {
     show::word(b"accepted");
@@ -52,5 +53,5 @@ pub fn show_reading(read: ModelRead) {
         accepted(read.model);
         return;
     }
-    show::say(said);
+    answers::show(said);
 }

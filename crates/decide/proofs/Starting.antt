@@ -117,10 +117,10 @@ module _ (m : Model) (v : T (valid m)) where
     long-h : m .states * m .symbols ≤ length H
     long-h = omega (arith, length-cleared (m .states * m .symbols) hs, able .heads-long)
 
-    pub heads-as-long : length hs′ ≡ length hs
+    heads-as-long : length hs′ ≡ length hs
     heads-as-long = ap length (st .heads) ∙ length-head (start-state-in m v) (start-symbol-in m v) 0 H ∙ length-cleared (m .states * m .symbols) hs
 
-    pub triples-as-long : length ts′ ≡ length ts
+    triples-as-long : length ts′ ≡ length ts
     triples-as-long = ap length (st .triples) ∙ length-cleared (m .states * m .symbols * m .states) ts
 
     past-h : drop (m .states * m .symbols) hs′ ≡ drop (m .states * m .symbols) hs
@@ -208,6 +208,13 @@ module _ (m : Model) (v : T (valid m)) where
         state-is = refl;
         symbol-is = refl;
       }
+
+      -- the arrays are as long as they were
+      pub as-long : {budget : ℕ} {r : Decision} {e hd hs″ ts″ : List ℕ}
+          → Driven z fins (m .startstate) (m .startsymbol) wt wh (m .rulerows) sy tg us (replicate {A = ℕ} 32 0)
+          (set (replicate {A = ℕ} 32 0) (m .startsymbol) ((1 * 2 ^ m .startstate) % 2 ^ 64)) hs′ ts′ budget r e hd hs″ ts″
+          → (length hs″ ≡ length hs) × (length ts″ ≡ length ts)
+      as-long d = let b = d (productOf m) starts in (b .heads-kept .as-long ∙ heads-as-long, b .triples-kept .as-long ∙ triples-as-long)
 
       -- the answer, and the whole table as it is laid out
       pub ran : {budget : ℕ} {r : Decision} {e hd hs″ ts″ : List ℕ}

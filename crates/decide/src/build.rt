@@ -12,7 +12,7 @@ use crate::sets::put;
 use crate::triples::low;
 
 // The symbol of each class: with one location a class is its symbol.
-pub fn symbols() -> [u8; 256]
+pub(crate) fn symbols() -> [u8; 256]
     ensures { λ sy. ⌜ SameSymbols 32 sy ⌝ }
 {
     let mut sy = [0u8; 256];
@@ -47,7 +47,12 @@ fn sort_rule(rules: &[u8; 1024], r: usize, us: &mut [u64; 384], exits: &mut [u64
 }
 
 // The sets of rules by what they need, and the exits, which give triples in the first round. The sets are filled where they lie: they are large.
-pub fn sort_rules(rules: &[u8; 1024], count: usize, us: &mut [u64; 384], exits: &mut [u64; 4])
+pub(crate) fn sort_rules(
+    rules: &[u8; 1024],
+    count: usize,
+    us: &mut [u64; 384],
+    exits: &mut [u64; 4],
+)
     requires { ⌜ count ≤ 256 ⌝ }
     requires { ⌜ Empty 384 (now us) ⌝ }
     requires { ⌜ Empty 4 (now exits) ⌝ }
@@ -72,7 +77,7 @@ fn if_final(finals: &[bool; 8], q: usize) -> u64
 }
 
 // The final states.
-pub fn final_states(finals: &[bool; 8]) -> u64
+pub(crate) fn final_states(finals: &[bool; 8]) -> u64
     ensures { λ r. ⌜ ((x : ℕ) → bit r x ≡ ltb x 8 && getD (now (finals .entry)) x false) ⌝ }
 {
     let mut r: u64 = 0;

@@ -70,7 +70,7 @@ fn show(
 }
 
 // The rules of a set.
-pub fn show_all(
+pub(crate) fn show_all(
     set: [u64; 4],
     rules: &[u8; 1024],
     sy: &[u8; 256],
@@ -111,7 +111,7 @@ fn take_heads(size: Size, g: usize, m: u64, k: u16, hd: &mut [u64; 32], heads: &
 }
 
 // The symbols of a set take in their rows, which are then empty again. Answers the set of the symbols that changed.
-pub fn settle_heads(
+pub(crate) fn settle_heads(
     size: Size,
     touched: u64,
     k: u16,

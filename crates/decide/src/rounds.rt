@@ -126,7 +126,7 @@ fn look(fins: u64, changed: u64, hd: &[u64; 32], e: &[u64; 32], q: usize, g: usi
 }
 
 // The rounds, from round 0 on. The verdict looks at what the last round changed, and only the rules that this concerns go on.
-pub fn run(
+pub(crate) fn run(
     size: Size,
     fins: u64,
     q: usize,

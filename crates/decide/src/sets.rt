@@ -8,7 +8,7 @@ ghost use Rattle.decide.specs.Turn.{Collected};
 ghost use Rattle.decide.specs.Sets.{With, Picked, Joined, Put};
 
 // Puts c into the set.
-pub fn add(set: &mut [u64; 4], c: usize)
+pub(crate) fn add(set: &mut [u64; 4], c: usize)
     requires { ⌜ length (now set) ≡ 4 ⌝ }
     requires { ⌜ c < 256 ⌝ }
     ensures { λ _. ⌜ With (now (set .entry)) c (now (set .exit)) ⌝ }
@@ -29,7 +29,7 @@ fn pick_in(set: &mut [u64; 4], k: usize, d: u64) -> usize
 }
 
 // Takes the lowest member out of the set; 256 where it has none. The words are named one by one, so that the compiler keeps each in a register.
-pub fn pick(set: &mut [u64; 4]) -> usize
+pub(crate) fn pick(set: &mut [u64; 4]) -> usize
     requires { ⌜ length (now set) ≡ 4 ⌝ }
     ensures { λ r. ⌜ Picked (now (set .entry)) r (now (set .exit)) ⌝ }
 {
@@ -68,7 +68,7 @@ fn join(set: [u64; 4], sets: &[u64; 384], s: usize) -> [u64; 4]
 }
 
 // Puts r into set number s.
-pub fn put(sets: &mut [u64; 384], s: usize, r: usize)
+pub(crate) fn put(sets: &mut [u64; 384], s: usize, r: usize)
     requires { ⌜ s < 96 ⌝ }
     requires { ⌜ r < 256 ⌝ }
     requires { ⌜ length (now sets) ≡ 384 ⌝ }
@@ -79,7 +79,7 @@ pub fn put(sets: &mut [u64; 384], s: usize, r: usize)
 }
 
 // The set with the members of those sets, from number `from` on, whose place stands in `places`.
-pub fn collect(sets: &[u64; 384], from: usize, places: u64, set: [u64; 4]) -> [u64; 4]
+pub(crate) fn collect(sets: &[u64; 384], from: usize, places: u64, set: [u64; 4]) -> [u64; 4]
     requires { ⌜ from + 32 ≤ 96 ⌝ }
     requires { ⌜ ((g : ℕ) → T (bit places g) → g < 32) ⌝ }
     requires { ⌜ length set ≡ 4 ⌝ }

@@ -3,7 +3,7 @@ ghost use Rattle.decide.specs.Stamp.{of-heads, of-triples, viewOf, Becam
 use table::Size;
 
 // The triples of symbol g that stand in the matrix get the rank k. All have a cell, so that it need not be asked for each.
-pub fn stamp(triples: &mut [u16], size: Size, g: usize, bits: u64, k: u16)
+pub(crate) fn stamp(triples: &mut [u16], size: Size, g: usize, bits: u64, k: u16)
     requires { ⌜ Stamps of-triples size g bits (now triples) ⌝ }
     ensures { λ _. ⌜ Became of-triples size (now (triples .entry)) (ranked k (named of-triples (alone g bits)) (viewOf of-triples size (now (triples .entry)))) (now (triples .exit)) ⌝ }
 {
@@ -18,7 +18,7 @@ pub fn stamp(triples: &mut [u16], size: Size, g: usize, bits: u64, k: u16)
 }
 
 // The heads of symbol g that stand in the row get the rank k.
-pub fn stamp_heads(heads: &mut [u16], size: Size, g: usize, bits: u64, k: u16)
+pub(crate) fn stamp_heads(heads: &mut [u16], size: Size, g: usize, bits: u64, k: u16)
     requires { ⌜ Stamps of-heads size g bits (now heads) ⌝ }
     ensures { λ _. ⌜ Became of-heads size (now (heads .entry)) (ranked k (named of-heads (alone g bits)) (viewOf of-heads size (now (heads .entry)))) (now (heads .exit)) ⌝ }
 {

@@ -11,7 +11,7 @@ use crate::stamps::stamp;
 use table::Size;
 
 // A byte as an index.
-pub fn wide(x: u8) -> usize
+pub(crate) fn wide(x: u8) -> usize
     ensures { λ r. ⌜ r ≡ x ⌝ }
     ensures { λ r. ⌜ r < 256 ⌝ }
 {
@@ -19,7 +19,7 @@ pub fn wide(x: u8) -> usize
 }
 
 // A byte as a symbol: below 32, whatever stands in a number that is not in use.
-pub fn low(x: u8) -> usize
+pub(crate) fn low(x: u8) -> usize
     ensures { λ r. ⌜ r ≡ x % 32 ⌝ }
     ensures { λ r. ⌜ r < 32 ⌝ }
 {
@@ -73,7 +73,12 @@ fn visit(i: usize, rules: &[u8; 1024], e: &[u64; 32], by: &mut [u64; 256], touch
 }
 
 // The rules of a set. Answers the set of the classes that have more than before.
-pub fn gather(set: [u64; 4], rules: &[u8; 1024], e: &[u64; 32], by: &mut [u64; 256]) -> [u64; 4]
+pub(crate) fn gather(
+    set: [u64; 4],
+    rules: &[u8; 1024],
+    e: &[u64; 32],
+    by: &mut [u64; 256],
+) -> [u64; 4]
     requires { ⌜ length set ≡ 4 ⌝ }
     requires { ⌜ length (now by) ≡ 256 ⌝ }
     ensures { λ t. ⌜ Gains (addedBy (now (rules .entry)) (now (e .entry)) set) (now (by .entry)) t (now (by .exit)) ⌝ }
@@ -126,7 +131,7 @@ fn settle(
 }
 
 // The symbols take in what the round gives the classes of a set. Answers the set of the symbols that changed.
-pub fn settle_all(
+pub(crate) fn settle_all(
     size: Size,
     touched: [u64; 4],
     k: u16,

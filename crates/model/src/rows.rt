@@ -39,7 +39,7 @@ pub fn rule_at(rulerows: &[u8; 1024], r: usize) -> Rule
 }
 
 // The move of row v.
-pub fn move_at(moverows: &[u8; 384], v: usize) -> Move
+pub(crate) fn move_at(moverows: &[u8; 384], v: usize) -> Move
     ensures { λ μ. ⌜ μ ≡ moveAt (now (moverows .entry)) v ⌝ }
 {
     Move {
@@ -50,7 +50,7 @@ pub fn move_at(moverows: &[u8; 384], v: usize) -> Move
 }
 
 // Row r is a rule, with its symbols in range.
-pub fn rule_in(rulerows: &[u8; 1024], symbols: u8, r: usize) -> bool
+pub(crate) fn rule_in(rulerows: &[u8; 1024], symbols: u8, r: usize) -> bool
     requires { ⌜ r < 256 ⌝ }
     ensures { λ b. ⌜ b ≡ ruleRowIn symbols (now (rulerows .entry)) r ⌝ }
 {
@@ -74,7 +74,7 @@ pub fn rule_in(rulerows: &[u8; 1024], symbols: u8, r: usize) -> bool
 }
 
 // Row v is a move, with its states and its event in range.
-pub fn move_in(moverows: &[u8; 384], states: u8, events: u8, v: usize) -> bool
+pub(crate) fn move_in(moverows: &[u8; 384], states: u8, events: u8, v: usize) -> bool
     requires { ⌜ v < 128 ⌝ }
     ensures { λ b. ⌜ b ≡ moveRowIn states events (now (moverows .entry)) v ⌝ }
 {

@@ -84,7 +84,7 @@ fn fields(out: &mut [u8], at: usize, numbers: &[u16]) -> usize
     next
 }
 
-pub fn line(out: &mut [u8], at: usize, s: &[u8], numbers: &[u16]) -> usize
+pub(crate) fn line(out: &mut [u8], at: usize, s: &[u8], numbers: &[u16]) -> usize
     requires { ⌜ at + length (now s) + 6 * length (now numbers) + 1 ≤ length (now out) ⌝ }
     ensures { λ r. ⌜ Put (now (out .entry)) (now (out .exit)) at r (lineBytes (now (s .entry)) (now (numbers .entry))) ⌝ }
 {

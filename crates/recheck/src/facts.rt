@@ -92,7 +92,7 @@ fn triples_of(triples: &[u16], size: Size, g: usize) -> u64
     m
 }
 
-pub fn all_triples(triples: &[u16], size: Size) -> [u64; 32]
+pub(crate) fn all_triples(triples: &[u16], size: Size) -> [u64; 32]
     requires { ⌜ size .symbols ≤ 32 ⌝ }
     requires { ⌜ size .states ≤ 8 ⌝ }
     requires { ⌜ tripleCount (size .symbols) (size .states) ≤ length (now triples) ⌝ }
@@ -108,7 +108,7 @@ pub fn all_triples(triples: &[u16], size: Size) -> [u64; 32]
     ts
 }
 
-pub fn all_heads(heads: &[u16], size: Size) -> [u64; 32]
+pub(crate) fn all_heads(heads: &[u16], size: Size) -> [u64; 32]
     requires { ⌜ size .symbols ≤ 32 ⌝ }
     requires { ⌜ size .states ≤ 8 ⌝ }
     requires { ⌜ headCount (size .symbols) (size .states) ≤ length (now heads) ⌝ }

@@ -82,7 +82,7 @@ fn open_rule<'a>(
 }
 
 // The first rule, and its first move, that are not closed. Rule by rule matrices decide; only for a rule that is not closed are its moves tried.
-pub fn open_step<'a>(m: Model, heads: &'a [u16], triples: &'a [u16]) -> Found
+pub(crate) fn open_step<'a>(m: Model, heads: &'a [u16], triples: &'a [u16]) -> Found
     requires { ⌜ T (valid m) ⌝ }
     requires { ⌜ T (longEnough (sizeOf m) (now heads) (now triples)) ⌝ }
     ensures { λ a. ⌜ a ≡ foundAs (openingOf m (inTable (sizeOf m) (now (heads .entry)) (now (triples .entry)))) ⌝ }

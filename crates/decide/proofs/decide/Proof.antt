@@ -29,7 +29,10 @@ returns-2 c =
 run-requires : tie.Need-run-requires
 run-requires c κs =
     let a = c .before .before .before .before .before .before .before .before .before .before .before .before .before .before .before .before .before .before .args in
-    able (a .t1) (a .budget) (a .heads .now) (a .triples .now) (of-parts (a .t1) (c .before .before .before .before .before .before .before .before .before .before .before .before .parts-valid .ensures)) (c .before .before .before .before .before .before .before .before .before .before .before .if1 .left) (c .before .before .before .before .before .before .before .before .long-enough .ensures) (c .before .before .before .before .before .before .before .if2 .left)
+    able (a .t1) (a .budget) (a .heads .now) (a .triples .now)
+    (of-parts (a .t1) (c .before .before .before .before .before .before .before .before .before .before .before .before .parts-valid .ensures))
+    (c .before .before .before .before .before .before .before .before .before .before .before .if1 .left)
+    (c .before .before .before .before .before .before .before .before .long-enough .ensures) (c .before .before .before .before .before .before .before .if2 .left)
 
 same-length-3 : tie.Need-same-length-3
 same-length-3 c = search needs
@@ -40,7 +43,11 @@ same-length-4 c = search needs
 returns-3 : tie.Need-returns-3
 returns-3 c =
     let a = c .before .before .before .before .before .before .before .before .before .before .before .before .before .before .before .before .before .before .before .before .before .before .before .args in
-    done (a .t1) (a .budget) (a .heads .now) (a .triples .now) (of-parts (a .t1) (c .before .before .before .before .before .before .before .before .before .before .before .before .before .before .before .before .before .parts-valid .ensures)) (c .before .before .before .before .before .before .before .before .before .before .before .before .before .before .before .before .if1 .left) (c .before .before .before .before .before .before .before .before .before .before .before .before .before .long-enough .ensures) (c .before .before .before .before .before .before .before .before .before .before .before .before .if2 .left) (c .before .before .before .before .run .ensures)
+    done (a .t1) (a .budget) (a .heads .now) (a .triples .now)
+    (of-parts (a .t1) (c .before .before .before .before .before .before .before .before .before .before .before .before .before .before .before .before .before .parts-valid .ensures))
+    (c .before .before .before .before .before .before .before .before .before .before .before .before .before .before .before .before .if1 .left)
+    (c .before .before .before .before .before .before .before .before .before .before .before .before .before .long-enough .ensures)
+    (c .before .before .before .before .before .before .before .before .before .before .before .before .if2 .left) (c .before .before .before .before .run .ensures)
 
 pub decide-spec : {M : Type 1} → statement M
 decide-spec =

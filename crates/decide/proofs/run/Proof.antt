@@ -1,12 +1,12 @@
 -- `decide::run` meets its contract. Assumes nothing.
-use mathlib.Core.Path.{refl, _∙_}
+use mathlib.Core.Path.{refl}
 use native.Mathlib.Omega.{arith}
 use borrow.Author.Needs.{needs}
 use Rattle.model.specs.Model.{productOf}
 use Rattle.model.specs.Valid.{ofParts}
 use Rattle.model.proofs.Valid.{valid-sizes}
 use Rattle.decide.proofs.Emptied.{empty-first}
-use Rattle.decide.proofs.Starting.{q-in, g-in, one-low, starts, ran, heads-as-long, triples-as-long}
+use Rattle.decide.proofs.Starting.{q-in, g-in, one-low, starts, as-long, ran}
 use Rattle.decide.proofs.run.Statement.{statement}
 use Rattle.decide.proofs.run.Tie as tie
 
@@ -52,28 +52,49 @@ array-write-hd c = g-in _ (c .before .before .before .before .before .before .be
 run-requires : tie.Need-run-requires
 run-requires c κs =
     let s = c .before .before .before .before .before .before .before .before .before .before .before .before .before .before .before .before .before .before .before .before .before .before .before .before .before .before .before in
-    let m = ofParts (s .args .shape) (s .args .rulerows .now) (s .args .moverows .now) (s .args .shows .now) (s .args .finals .now) in
-    (productOf m, starts m (s .pre .valid-model) (s .pre) (c .before .before .before .before .before .before .before .before .before .before .before .before .before .before .before .before .before .before .before .before .start .ensures) (c .before .before .before .before .before .before .before .before .before .before .sort-rules .ensures .uses) (c .before .before .before .before .before .before .before .before .before .before .sort-rules .ensures .exits) (c .before .before .before .before .before .before .before .before .collect .ensures) (c .before .before .before .before .before .before .before .before .before .before .before .before .before .symbols .ensures) (c .before .before .before .before .before .before .before .before .before .before .before .before .before .before .class-steps .ensures) (c .before .before .before .before .before .before .before .final-states .ensures))
+    let m = ofParts (s .args .shape) (s .args .rulerows .now) (s .args .moverows .now) (s .args .shows .now) (s .args .finals .now) in (
+      productOf m,
+      starts m (s .pre .valid-model) (s .pre) (c .before .before .before .before .before .before .before .before .before .before .before .before .before .before .before .before .before .before .before .before .start .ensures)
+          (c .before .before .before .before .before .before .before .before .before .before .sort-rules .ensures .uses) (c .before .before .before .before .before .before .before .before .before .before .sort-rules .ensures .exits)
+          (c .before .before .before .before .before .before .before .before .collect .ensures) (c .before .before .before .before .before .before .before .before .before .before .before .before .before .symbols .ensures)
+          (c .before .before .before .before .before .before .before .before .before .before .before .before .before .before .class-steps .ensures) (c .before .before .before .before .before .before .before .final-states .ensures),
+    )
 
 same-length : tie.Need-same-length
 same-length c =
     let s = c .before .before .before .before .before .before .before .before .before .before .before .before .before .before .before .before .before .before .before .before .before .before .before .before .before .before .before .before .before .before .before .before in
     let m = ofParts (s .args .shape) (s .args .rulerows .now) (s .args .moverows .now) (s .args .shows .now) (s .args .finals .now) in
-    (c .before .before .before .before .run .ensures (productOf m) (starts m (s .pre .valid-model) (s .pre) (c .before .before .before .before .before .before .before .before .before .before .before .before .before .before .before .before .before .before .before .before .before .before .before .before .before .start .ensures) (c .before .before .before .before .before .before .before .before .before .before .before .before .before .before .before .sort-rules .ensures .uses) (c .before .before .before .before .before .before .before .before .before .before .before .before .before .before .before .sort-rules .ensures .exits) (c .before .before .before .before .before .before .before .before .before .before .before .before .before .collect .ensures) (c .before .before .before .before .before .before .before .before .before .before .before .before .before .before .before .before .before .before .symbols .ensures) (c .before .before .before .before .before .before .before .before .before .before .before .before .before .before .before .before .before .before .before .class-steps .ensures) (c .before .before .before .before .before .before .before .before .before .before .before .before .final-states .ensures))) .heads-kept .as-long
-    ∙ heads-as-long m (s .pre .valid-model) (s .pre) (c .before .before .before .before .before .before .before .before .before .before .before .before .before .before .before .before .before .before .before .before .before .before .before .before .before .start .ensures)
+    as-long m (s .pre .valid-model) (s .pre) (c .before .before .before .before .before .before .before .before .before .before .before .before .before .before .before .before .before .before .before .before .before .before .before .before .before .start .ensures)
+    (c .before .before .before .before .before .before .before .before .before .before .before .before .before .before .before .sort-rules .ensures .uses)
+    (c .before .before .before .before .before .before .before .before .before .before .before .before .before .before .before .sort-rules .ensures .exits)
+    (c .before .before .before .before .before .before .before .before .before .before .before .before .before .collect .ensures) (c .before .before .before .before .before .before .before .before .before .before .before .before .before .before .before .before .before .before .symbols .ensures)
+    (c .before .before .before .before .before .before .before .before .before .before .before .before .before .before .before .before .before .before .before .class-steps .ensures)
+    (c .before .before .before .before .before .before .before .before .before .before .before .before .final-states .ensures)
+    (c .before .before .before .before .run .ensures) .0
 
 same-length-2 : tie.Need-same-length-2
 same-length-2 c =
     let s = c .before .before .before .before .before .before .before .before .before .before .before .before .before .before .before .before .before .before .before .before .before .before .before .before .before .before .before .before .before .before .before .before in
     let m = ofParts (s .args .shape) (s .args .rulerows .now) (s .args .moverows .now) (s .args .shows .now) (s .args .finals .now) in
-    (c .before .before .before .before .run .ensures (productOf m) (starts m (s .pre .valid-model) (s .pre) (c .before .before .before .before .before .before .before .before .before .before .before .before .before .before .before .before .before .before .before .before .before .before .before .before .before .start .ensures) (c .before .before .before .before .before .before .before .before .before .before .before .before .before .before .before .sort-rules .ensures .uses) (c .before .before .before .before .before .before .before .before .before .before .before .before .before .before .before .sort-rules .ensures .exits) (c .before .before .before .before .before .before .before .before .before .before .before .before .before .collect .ensures) (c .before .before .before .before .before .before .before .before .before .before .before .before .before .before .before .before .before .before .symbols .ensures) (c .before .before .before .before .before .before .before .before .before .before .before .before .before .before .before .before .before .before .before .class-steps .ensures) (c .before .before .before .before .before .before .before .before .before .before .before .before .final-states .ensures))) .triples-kept .as-long
-    ∙ triples-as-long m (s .pre .valid-model) (s .pre) (c .before .before .before .before .before .before .before .before .before .before .before .before .before .before .before .before .before .before .before .before .before .before .before .before .before .start .ensures)
+    as-long m (s .pre .valid-model) (s .pre) (c .before .before .before .before .before .before .before .before .before .before .before .before .before .before .before .before .before .before .before .before .before .before .before .before .before .start .ensures)
+    (c .before .before .before .before .before .before .before .before .before .before .before .before .before .before .before .sort-rules .ensures .uses)
+    (c .before .before .before .before .before .before .before .before .before .before .before .before .before .before .before .sort-rules .ensures .exits)
+    (c .before .before .before .before .before .before .before .before .before .before .before .before .before .collect .ensures) (c .before .before .before .before .before .before .before .before .before .before .before .before .before .before .before .before .before .before .symbols .ensures)
+    (c .before .before .before .before .before .before .before .before .before .before .before .before .before .before .before .before .before .before .before .class-steps .ensures)
+    (c .before .before .before .before .before .before .before .before .before .before .before .before .final-states .ensures)
+    (c .before .before .before .before .run .ensures) .1
 
 returns : tie.Need-returns
 returns c =
     let s = c .before .before .before .before .before .before .before .before .before .before .before .before .before .before .before .before .before .before .before .before .before .before .before .before .before .before .before .before .before .before .before .before in
     let m = ofParts (s .args .shape) (s .args .rulerows .now) (s .args .moverows .now) (s .args .shows .now) (s .args .finals .now) in
-    ran m (s .pre .valid-model) (s .pre) (c .before .before .before .before .before .before .before .before .before .before .before .before .before .before .before .before .before .before .before .before .before .before .before .before .before .start .ensures) (c .before .before .before .before .before .before .before .before .before .before .before .before .before .before .before .sort-rules .ensures .uses) (c .before .before .before .before .before .before .before .before .before .before .before .before .before .before .before .sort-rules .ensures .exits) (c .before .before .before .before .before .before .before .before .before .before .before .before .before .collect .ensures) (c .before .before .before .before .before .before .before .before .before .before .before .before .before .before .before .before .before .before .symbols .ensures) (c .before .before .before .before .before .before .before .before .before .before .before .before .before .before .before .before .before .before .before .class-steps .ensures) (c .before .before .before .before .before .before .before .before .before .before .before .before .final-states .ensures) (c .before .before .before .before .run .ensures)
+    ran m (s .pre .valid-model) (s .pre) (c .before .before .before .before .before .before .before .before .before .before .before .before .before .before .before .before .before .before .before .before .before .before .before .before .before .start .ensures)
+    (c .before .before .before .before .before .before .before .before .before .before .before .before .before .before .before .sort-rules .ensures .uses)
+    (c .before .before .before .before .before .before .before .before .before .before .before .before .before .before .before .sort-rules .ensures .exits)
+    (c .before .before .before .before .before .before .before .before .before .before .before .before .before .collect .ensures) (c .before .before .before .before .before .before .before .before .before .before .before .before .before .before .before .before .before .before .symbols .ensures)
+    (c .before .before .before .before .before .before .before .before .before .before .before .before .before .before .before .before .before .before .before .class-steps .ensures)
+    (c .before .before .before .before .before .before .before .before .before .before .before .before .final-states .ensures)
+    (c .before .before .before .before .run .ensures)
 
 pub run-spec : {M : Type 1} → statement M
 run-spec =

@@ -29,7 +29,10 @@ same-length-2 : tie.Need-same-length-2
 same-length-2 c = search needs
 
 returns-4 : tie.Need-returns-4
-returns-4 c = not-ranked (fault-large _ _ _ _ (c .before .before .before .before .before .before .if1 .left) (sym (c .before .before .triple-at .ensures) ∙ c .before .if3 .left) (passed (c .before .before .before .before .before .triple-inside .ensures) (c .before .before .before .before .if2 .left)) (c .if4 .taken)) (λ e. omega arith)
+returns-4 c =
+    not-ranked
+    (fault-large _ _ _ _ (c .before .before .before .before .before .before .if1 .left) (sym (c .before .before .triple-at .ensures) ∙ c .before .if3 .left) (passed (c .before .before .before .before .before .triple-inside .ensures) (c .before .before .before .before .if2 .left)) (c .if4 .taken))
+    (λ e. omega arith)
 
 cast-put-triple : tie.Need-cast-put-triple
 cast-put-triple c = search needs
@@ -41,7 +44,10 @@ same-length-3 : tie.Need-same-length-3
 same-length-3 c = search needs
 
 returns-5 : tie.Need-returns-5
-returns-5 c = is-ranked (fault-none _ _ _ _ (c .before .before .before .before .before .before .before .before .before .before .if1 .left) (sym (c .before .before .before .before .before .before .triple-at .ensures) ∙ c .before .before .before .before .before .if3 .left) (passed (c .before .before .before .before .before .before .before .before .before .triple-inside .ensures) (c .before .before .before .before .before .before .before .before .if2 .left)) (c .before .before .before .before .if4 .left)) (c .before .before .put-triple .ensures)
+returns-5 c =
+    is-ranked
+    (fault-none _ _ _ _ (c .before .before .before .before .before .before .before .before .before .before .if1 .left) (sym (c .before .before .before .before .before .before .triple-at .ensures) ∙ c .before .before .before .before .before .if3 .left) (passed (c .before .before .before .before .before .before .before .before .before .triple-inside .ensures) (c .before .before .before .before .before .before .before .before .if2 .left)) (c .before .before .before .before .if4 .left))
+    (c .before .before .put-triple .ensures)
 
 pub rank-triple-spec : {M : Type 1} → statement M
 rank-triple-spec = tie.close (tie.spec returns triple-inside-requires returns-2 triple-at-requires same-length returns-3 same-length-2 returns-4 cast-put-triple put-triple-requires same-length-3 returns-5)

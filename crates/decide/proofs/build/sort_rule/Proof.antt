@@ -60,7 +60,8 @@ returns-2 : tie.Need-returns-2
 returns-2 c =
     let s = c .before .before .before .before .before .before .before .before .before .before .before in
     record {
-      uses = uses-direct (s .args .rules .now) (s .args .r) (s .pre .0) (s .pre .1 .0) (c .before .before .before .before .before .before .low .ensures .0) (c .before .before .before .before .before .put .ensures) (c .before .before .before .low2 .ensures .0) (c .before .put2 .ensures) (c .if2 .taken);
+      uses = uses-direct (s .args .rules .now) (s .args .r) (s .pre .0) (s .pre .1 .0) (c .before .before .before .before .before .before .low .ensures .0)
+          (c .before .before .before .before .before .put .ensures) (c .before .before .before .low2 .ensures .0) (c .before .put2 .ensures) (c .if2 .taken);
       exits = exit-other (s .args .rules .now) (s .args .r) (s .pre .1 .1) (c .before .before .before .before .before .before .before .before .before .if1 .left);
     }
 
@@ -89,7 +90,12 @@ returns-3 : tie.Need-returns-3
 returns-3 c =
     let s = c .before .before .before .before .before .before .before .before .before .before .before .before .before .before .before .before .before in
     record {
-      uses = uses-call (s .args .rules .now) (s .args .r) (s .pre .0) (s .pre .1 .0) (c .before .before .before .before .before .before .before .before .before .before .before .before .low .ensures .0) (c .before .before .before .before .before .before .before .before .before .before .before .put .ensures) (c .before .before .before .before .before .before .before .before .before .low2 .ensures .0) (c .before .before .before .before .before .before .before .put2 .ensures) (c .before .before .before .before .before .before .before .before .before .before .before .before .before .before .before .if1 .left) (c .before .before .before .before .before .before .if2 .left)
+      uses = uses-call (s .args .rules .now) (s .args .r) (s .pre .0) (s .pre .1 .0)
+          (c .before .before .before .before .before .before .before .before .before .before .before .before .low .ensures .0)
+          (c .before .before .before .before .before .before .before .before .before .before .before .put .ensures)
+          (c .before .before .before .before .before .before .before .before .before .low2 .ensures .0) (c .before .before .before .before .before .before .before .put2 .ensures)
+          (c .before .before .before .before .before .before .before .before .before .before .before .before .before .before .before .if1 .left)
+          (c .before .before .before .before .before .before .if2 .left)
           (c .before .before .before .low3 .ensures .0) (c .before .before .put3 .ensures) (c .put4 .ensures);
       exits = exit-other (s .args .rules .now) (s .args .r) (s .pre .1 .1) (c .before .before .before .before .before .before .before .before .before .before .before .before .before .before .before .if1 .left);
     }

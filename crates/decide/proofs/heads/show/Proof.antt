@@ -36,7 +36,10 @@ add-row-requires : tie.Need-add-row-requires
 add-row-requires c κs = search needs
 
 returns-3 : tie.Need-returns-3
-returns-3 c = let a = c .before .before .before .before .before .before .before .before .before .args in show-direct (a .rules .now) (a .sy .now) (a .tg .now) (a .e .now) (a .hd .now) _ (a .i) (c .before .before .before .before .before .before .before .if1 .left) _ (c .before .before .before .before .before .before .land .ensures) _ (c .before .before .before .low .ensures .0) (c .before .add-row .ensures) (c .if3 .taken)
+returns-3 c =
+    let a = c .before .before .before .before .before .before .before .before .before .args in
+    show-direct (a .rules .now) (a .sy .now) (a .tg .now) (a .e .now) (a .hd .now) _ (a .i) (c .before .before .before .before .before .before .before .if1 .left) _
+    (c .before .before .before .before .before .before .land .ensures) _ (c .before .before .before .low .ensures .0) (c .before .add-row .ensures) (c .if3 .taken)
 
 mul-back : tie.Need-mul-back
 mul-back c = search needs
@@ -45,7 +48,11 @@ element-copy-out-back : tie.Need-element-copy-out-back
 element-copy-out-back c = search needs
 
 returns-4 : tie.Need-returns-4
-returns-4 c = let a = c .before .before .before .before .before .before .before .before .before .before .before .args in show-entered (a .rules .now) (a .sy .now) (a .tg .now) (a .e .now) (a .hd .now) _ (a .i) (c .before .before .before .before .before .before .before .before .before .if1 .left) _ (c .before .before .before .before .before .before .before .before .land .ensures) _ (c .before .before .before .before .before .low .ensures .0) (c .before .before .before .add-row .ensures) (c .before .before .if3 .left) (c .if4 .taken)
+returns-4 c =
+    let a = c .before .before .before .before .before .before .before .before .before .before .before .args in
+    show-entered (a .rules .now) (a .sy .now) (a .tg .now) (a .e .now) (a .hd .now) _ (a .i) (c .before .before .before .before .before .before .before .before .before .if1 .left) _
+    (c .before .before .before .before .before .before .before .before .land .ensures) _ (c .before .before .before .before .before .low .ensures .0)
+    (c .before .before .before .add-row .ensures) (c .before .before .if3 .left) (c .if4 .taken)
 
 mul-low-2 : tie.Need-mul-low-2
 mul-low-2 c = search needs
@@ -68,7 +75,12 @@ add-row-requires-2 c κs = (c .before .before .low2 .ensures .1, c .before .befo
 returns-5 : tie.Need-returns-5
 returns-5 c =
     let a = c .before .before .before .before .before .before .before .before .before .before .before .before .before .before .before .before .args in
-    show-call (a .rules .now) (a .sy .now) (a .tg .now) (a .e .now) (a .hd .now) _ (a .i) (c .before .before .before .before .before .before .before .before .before .before .before .before .before .before .if1 .left) _ (c .before .before .before .before .before .before .before .before .before .before .before .before .before .land .ensures) _ (c .before .before .before .before .before .before .before .before .before .before .low .ensures .0) (c .before .before .before .before .before .before .before .before .add-row .ensures) (c .before .before .before .before .before .before .before .if3 .left) _ _ (c .before .before .through .ensures) (c .before .before .before .low2 .ensures .0) (c .add-row2 .ensures)
+    show-call (a .rules .now) (a .sy .now) (a .tg .now) (a .e .now) (a .hd .now) _ (a .i)
+    (c .before .before .before .before .before .before .before .before .before .before .before .before .before .before .if1 .left) _
+    (c .before .before .before .before .before .before .before .before .before .before .before .before .before .land .ensures) _
+    (c .before .before .before .before .before .before .before .before .before .before .low .ensures .0)
+    (c .before .before .before .before .before .before .before .before .add-row .ensures) (c .before .before .before .before .before .before .before .if3 .left) _ _
+    (c .before .before .through .ensures) (c .before .before .before .low2 .ensures .0) (c .add-row2 .ensures)
 
 pub show-spec : {M : Type 1} → statement M
 show-spec =

@@ -41,45 +41,30 @@ cast-i c = omega (arith, trailing-le 64 (c .before .loop .d))
 sub-d : tie.Need-sub-d Inv-loop μ-loop
 sub-d c = search needs
 
-mul-triples : tie.Need-mul-triples Inv-loop μ-loop
-mul-triples c =
-    let i = c .before .loop .inv _ (c .before .before .before .before .before .pre) refl (c .before .before .head-count .ensures) in
-    let h = cell-in _ _ _ _ _ (c .before .before .before .before .before .pre) refl (c .before .before .head-count .ensures) _ _ (omega arith) i in
-    let l = i .as-long in
-    search needs
-
-add-triples : tie.Need-add-triples Inv-loop μ-loop
-add-triples c =
-    let i = c .before .loop .inv _ (c .before .before .before .before .before .pre) refl (c .before .before .head-count .ensures) in
-    let h = cell-in _ _ _ _ _ (c .before .before .before .before .before .pre) refl (c .before .before .head-count .ensures) _ _ (omega arith) i in
-    let l = i .as-long in
-    search needs
-
-add-triples-2 : tie.Need-add-triples-2 Inv-loop μ-loop
-add-triples-2 c =
-    let i = c .before .loop .inv _ (c .before .before .before .before .before .pre) refl (c .before .before .head-count .ensures) in
-    let h = cell-in _ _ _ _ _ (c .before .before .before .before .before .pre) refl (c .before .before .head-count .ensures) _ _ (omega arith) i in
-    let l = i .as-long in
-    search needs
-
-mul-triples-2 : tie.Need-mul-triples-2 Inv-loop μ-loop
-mul-triples-2 c =
-    let i = c .before .loop .inv _ (c .before .before .before .before .before .pre) refl (c .before .before .head-count .ensures) in
-    let h = cell-in _ _ _ _ _ (c .before .before .before .before .before .pre) refl (c .before .before .head-count .ensures) _ _ (omega arith) i in
-    let l = i .as-long in
-    search needs
-
+-- the cell lies in the array, whose length is what it was: no sum on the way to it wraps
 slice-write-triples : tie.Need-slice-write-triples Inv-loop μ-loop
 slice-write-triples c = cell-in _ _ _ _ _ (c .before .before .before .before .before .pre) refl (c .before .before .head-count .ensures) _ _ (omega arith) (c .before .loop .inv _ (c .before .before .before .before .before .pre) refl (c .before .before .head-count .ensures))
+
+same-length : tie.Need-same-length Inv-loop μ-loop
+same-length c = (c .before .loop .inv _ (c .before .before .before .before .before .pre) refl (c .before .before .head-count .ensures)) .as-long
+
+mul-triples : tie.Need-mul-triples Inv-loop μ-loop
+mul-triples c = omega (arith, slice-write-triples c, (c .before .loop .inv _ (c .before .before .before .before .before .pre) refl (c .before .before .head-count .ensures)) .as-long)
+
+add-triples : tie.Need-add-triples Inv-loop μ-loop
+add-triples c = omega (arith, slice-write-triples c, (c .before .loop .inv _ (c .before .before .before .before .before .pre) refl (c .before .before .head-count .ensures)) .as-long)
+
+add-triples-2 : tie.Need-add-triples-2 Inv-loop μ-loop
+add-triples-2 c = omega (arith, slice-write-triples c, (c .before .loop .inv _ (c .before .before .before .before .before .pre) refl (c .before .before .head-count .ensures)) .as-long)
+
+mul-triples-2 : tie.Need-mul-triples-2 Inv-loop μ-loop
+mul-triples-2 c = omega (arith, slice-write-triples c, (c .before .loop .inv _ (c .before .before .before .before .before .pre) refl (c .before .before .head-count .ensures)) .as-long)
 
 loop-less : tie.Need-loop-less Inv-loop μ-loop
 loop-less c = cleared-less (c .before .loop .d) (omega arith)
 
 loop-again : tie.Need-loop-again Inv-loop μ-loop
 loop-again c z h e f = triples-next _ _ _ _ _ h e f _ _ (omega arith) (c .before .loop .inv z h e f)
-
-same-length : tie.Need-same-length Inv-loop μ-loop
-same-length c = (c .before .loop .inv _ (c .before .before .before .before .before .pre) refl (c .before .before .head-count .ensures)) .as-long
 
 returns : tie.Need-returns Inv-loop μ-loop
 returns c = triples-last _ _ _ _ _ (c .before .before .before .before .before .pre) (search needs) _ _ (omega arith) (c .before .loop .inv _ (c .before .before .before .before .before .pre) refl (c .before .before .head-count .ensures))

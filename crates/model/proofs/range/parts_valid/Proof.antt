@@ -47,11 +47,17 @@ moves-in-requires c κs = few (c .before .before .before .before .before .before
 
 returns-4 : tie.Need-returns-4
 unfolding valid
-returns-4 c = rw (passed (c .before .before .before .before .before .before .before .before .sizes-in .ensures) (c .before .before .before .before .before .before .before .if1 .left), lt-ltb _ _ (c .before .before .before .before .before .if2 .left), lt-ltb _ _ (c .before .before .before .if3 .left), sym (c .before .before .rules-in .ensures) ∙ c .before .if4 .taken) (c .moves-in .ensures)
+returns-4 c =
+    rw
+    (passed (c .before .before .before .before .before .before .before .before .sizes-in .ensures) (c .before .before .before .before .before .before .before .if1 .left), lt-ltb _ _ (c .before .before .before .before .before .if2 .left), lt-ltb _ _ (c .before .before .before .if3 .left), sym (c .before .before .rules-in .ensures) ∙ c .before .if4 .taken)
+    (c .moves-in .ensures)
 
 returns-5 : tie.Need-returns-5
 unfolding valid
-returns-5 c = rw (passed (c .before .before .before .before .before .before .before .sizes-in .ensures) (c .before .before .before .before .before .before .if1 .left), lt-ltb _ _ (c .before .before .before .before .if2 .left), lt-ltb _ _ (c .before .before .if3 .left), sym (c .before .rules-in .ensures) ∙ c .if4 .left) (c .if4 .left)
+returns-5 c =
+    rw
+    (passed (c .before .before .before .before .before .before .before .sizes-in .ensures) (c .before .before .before .before .before .before .if1 .left), lt-ltb _ _ (c .before .before .before .before .if2 .left), lt-ltb _ _ (c .before .before .if3 .left), sym (c .before .rules-in .ensures) ∙ c .if4 .left)
+    (c .if4 .left)
 
 pub parts-valid-spec : {M : Type 1} → statement M
 parts-valid-spec =

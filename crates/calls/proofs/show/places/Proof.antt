@@ -1,9 +1,9 @@
--- `show::places` meets its contract. Assumes nothing.
+-- `calls::show::places` meets its contract. Assumes nothing.
 use Prim.Native.Nat.{_≤_, _-_}
 use lib.ListN.{length}
 use borrow.Author.Needs.{needs}
-use Rattle.show.proofs.places.Statement.{statement}
-use Rattle.show.proofs.places.Tie as tie
+use Rattle.calls.proofs.show.places.Statement.{statement}
+use Rattle.calls.proofs.show.places.Tie as tie
 
 abbrev Inv-loop : tie.InvT-loop
 Inv-loop s i₀ i = (i ≤ length s)

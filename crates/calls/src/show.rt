@@ -1,4 +1,4 @@
-// What the test program writes on standard output: words, fields, rows of cells, and answers.
+// What is written on standard output: words, fields, and rows of cells.
 use libc::STDOUT_FILENO;
 
 pub fn word(s: &[u8]) {
@@ -68,63 +68,4 @@ pub fn places(s: &[bool]) {
         }
         i += 1;
     }
-}
-
-// The words, by their places in the table below.
-pub const ACCEPTED: usize = 0;
-
-pub const CHECK_REFUSED: usize = 1;
-
-pub const NOT_CLOSED: usize = 2;
-
-pub const VIOLATION: usize = 3;
-
-pub const SAFE: usize = 4;
-
-pub const REFUSED: usize = 5;
-
-pub const TRACE: usize = 6;
-
-pub const TRACE_REFUSED: usize = 7;
-
-pub const TRACE_CUT: usize = 8;
-
-pub const REPLAYED: usize = 9;
-
-pub const REPLAY_REFUSED: usize = 10;
-
-// A word and two numbers.
-pub struct Said(pub usize, pub u64, pub u64);
-
-fn length(k: usize) -> usize {
-    let lengths = [8, 13, 10, 9, 4, 7, 5, 13, 9, 8, 14];
-    if k < 11 {
-        return lengths[k];
-    }
-    0
-}
-
-// Word k of the table, where each word has 14 bytes, and two numbers.
-fn write(words: &[u8], k: usize, a: u64, b: u64) {
-    let n = length(k);
-    if 10 < k {
-        return;
-    }
-    if 14 < n {
-        return;
-    }
-    let i = k * 14;
-    let e = i + n;
-    if e <= words.len() {
-        line(&words[i..e], a, b);
-    }
-}
-
-pub fn say(s: Said) {
-    write(
-        b"accepted      check refused not closed    violation     safe          refused       trace         trace refused trace cut     replayed      replay refused",
-        s.0,
-        s.1,
-        s.2,
-    );
 }
