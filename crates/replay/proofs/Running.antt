@@ -16,7 +16,7 @@ use Rattle.product.specs.Runs.{State, replaced, step}
 use Rattle.product.specs.Replay.{replays, stops, replayFrom, replay}
 use Rattle.product.proofs.Lists.{and-right, All-map}
 use Rattle.model.specs.declared.Model.{Model}
-use Rattle.model.specs.Model.{rule, move, final, fitsAt, productOf}
+use Rattle.model.specs.Model.{rule, move, final, nextAt, there, productOf}
 use Rattle.model.specs.Valid.{valid}
 use Rattle.model.proofs.Valid.{Sizes, valid-sizes, valid-move, product-in}
 use Rattle.replay.specs.declared.Machine.{Machine}
@@ -55,21 +55,18 @@ module _ (finals : List Bool) (number : ℕ) where
       go false true f e = let z : _≡_ {A = ℕ} 0 1 = cc in absurd (omega arith)
 
 -- a step by the rows is the step of the product
-same : (ρ : product.Rule) (w : List ℕ) (t : ℕ) (a b e f : Bool)
-    → replaced ρ w (cond (a && b && e) (cond f (some t) none) none) ≡ cond e (replaced ρ w (cond (a && b && f) (some t) none)) none
-same ρ w t true true true f = refl
-same ρ w t true true false f = refl
-same ρ w t true false true f = refl
-same ρ w t true false false f = refl
-same ρ w t false b true f = refl
-same ρ w t false b false f = refl
+same : (ρ : product.Rule) (w : List ℕ) (a e : Bool) (n : Option ℕ)
+    → replaced ρ w (cond (a && e) n none) ≡ cond e (replaced ρ w (cond a n none)) none
+same ρ w true true n = refl
+same ρ w true false n = refl
+same ρ w false true n = refl
+same ρ w false false n = refl
 
 step-same : (m : Model) (s : Step) (c : State) → stepAt (m .rulerows) (m .moverows) (m .shows) (m .rules) (m .moves) s c ≡ step (productOf m) s c
 unfolding step
 step-same m s (q, []) = refl
 step-same m s (q, g ∷ w) =
-    same (rule m (s .by-rule)) w (move m (s .by-move) .target) (ltb (s .by-rule) (m .rules)) (ltb (s .by-move) (m .moves)) (eqb (symbol (rule m (s .by-rule))) g)
-    (fitsAt (rule m (s .by-rule)) (move m (s .by-move)) (m .shows) q)
+    same (rule m (s .by-rule)) w (there m s) (eqb (symbol (rule m (s .by-rule))) g) (nextAt (m .rulerows) (m .moverows) (m .shows) (s .by-rule) (s .by-move) q)
 
 -- how a replay goes on
 module _ (p : Product) (k : ℕ) (c : State) where
