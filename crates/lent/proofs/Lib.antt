@@ -1,0 +1,2 @@
+-- The laws of a lent model. Assumes nothing.
+pub mod Parts

@@ -1,0 +1,70 @@
+-- A model as one array of bytes, as it is lent to the calls above: which record such bytes are, and which product. Assumes nothing.
+-- Four numbers a rule from 0 on, three a move from 1,024, a truth for each symbol and event from 1,408, one for each state that is final from 1,920;
+-- from 1,928 on symbols, states, events, start state, start symbol, the number of rules, its low byte first, and the number of moves.
+use mathlib.Core.Bool.{Bool, cond}
+use mathlib.Core.List.{List, map}
+use mathlib.Core.Option.{Option}
+use Prim.Native.Nat.{ℕ, _+_, _*_, _%_}
+use lib.Dec.{eqb}
+use lib.ListN.{getD, take, drop}
+use Rattle.product.specs.Product.{Product}
+use Rattle.model.specs.declared.Model.{Model}
+use Rattle.model.specs.declared.Shape.{Shape}
+use Rattle.model.specs.Model.{productOf}
+use Rattle.model.specs.Valid.{ofParts}
+
+-- n cells from a place on
+abbrev pub part : (from n : ℕ) → List ℕ → List ℕ
+part from n cells = take n (drop from cells)
+
+-- a truth is 1
+abbrev pub isTrue : ℕ → Bool
+isTrue n = eqb n 1
+
+abbrev pub byteOf : Bool → ℕ
+byteOf b = cond b 1 0
+
+unfoldable pub truths : List ℕ → List Bool
+truths cells = map isTrue cells
+
+unfoldable pub bytesOf : List Bool → List ℕ
+bytesOf bs = map byteOf bs
+
+abbrev pub shapeIn : List ℕ → Shape
+shapeIn cells = record {
+  symbols = getD cells 1928 0;
+  states = getD cells 1929 0;
+  events = getD cells 1930 0;
+  startstate = getD cells 1931 0;
+  startsymbol = getD cells 1932 0;
+  rules = getD cells 1933 0 + 256 * getD cells 1934 0;
+  moves = getD cells 1935 0;
+}
+
+-- the record that the bytes are
+unfoldable pub modelIn : List ℕ → Model
+modelIn cells = ofParts (shapeIn cells) (part 0 1024 cells) (part 1024 384 cells) (truths (part 1408 512 cells)) (truths (part 1920 8 cells))
+
+-- and its product
+abbrev pub productIn : List ℕ → Product
+productIn cells = productOf (modelIn cells)
+
+-- the state after rule r and move v from q
+abbrev pub nextBy : Product → (r v q : ℕ) → Option ℕ
+nextBy p r v q = p .next (record { by-rule = r; by-move = v }) q
+
+-- A record with its counts as far as the bytes hold them: 65,536 rules are as none, 256 moves likewise. A valid record has fewer.
+abbrev pub held : Model → Model
+held m = record {
+  symbols = m .symbols;
+  states = m .states;
+  events = m .events;
+  startstate = m .startstate;
+  startsymbol = m .startsymbol;
+  finals = m .finals;
+  shows = m .shows;
+  rules = m .rules % 65536;
+  rulerows = m .rulerows;
+  moves = m .moves % 256;
+  moverows = m .moverows;
+}
