@@ -15,6 +15,10 @@ use model::Shape;
 // A model's bytes.
 pub type Lent = [u8; 1936];
 
+mod pack; // a record's bytes
+
+pub use pack::lend;
+
 fn wide(b: u8) -> usize
     ensures { λ n. ⌜ (n ≡ b) × (n ≤ 255) ⌝ }
 {
