@@ -7,7 +7,10 @@ use native.Mathlib.Numerals.{add-one}
 use native.Mathlib.Omega.{arith}
 use lib.ListN.{length, getD, take, drop, set, length-append, length-drop, length-map, take-append-drop}
 use lib.Seq.{take-suc, take-suc-set, take-all, take-at, drop-at, take-append-le, drop-append-le, length-take-le}
+use lib.Dec.{T}
 use Rattle.model.specs.declared.Model.{Model}
+use Rattle.model.specs.Valid.{valid}
+use Rattle.model.proofs.Valid.{Sizes, valid-sizes}
 use Rattle.lent.specs.Lending.{part, byteOf, truths, bytesOf, held, modelIn}
 use Rattle.lent.specs.Packing.{putAt}
 use Rattle.lent.proofs.Parts.{in-part}
@@ -131,3 +134,13 @@ module _ (m : Model) (c0 c1 c2 c3 c4 c5 : List ℕ) (room : length c0 ≡ 1936)
       (ap truths (stays4 1408 512 (omega arith) ∙ ap (part 1408 512) p3 ∙ part-put c2 1408 (bytesOf (m .shows)) e3 512 (length-bytes (m .shows) ∙ shows)) ∙ truths-bytes (m .shows))
       (ap truths (stays5 1920 8 (omega arith) ∙ ap (part 1920 8) p4 ∙ part-put c3 1920 (bytesOf (m .finals)) e4 8 (length-bytes (m .finals) ∙ finals)) ∙ truths-bytes (m .finals))
       (ap (part 1928 8) p5 ∙ part-put c4 1928 (shapeOf m) e5 8 refl)
+
+-- the bytes of a valid record are that record
+pub lends : (m : Model) {cells : List ℕ} → T (valid m) → modelIn cells ≡ held m → modelIn cells ≡ m
+lends m v e =
+    let z : Sizes m = valid-sizes m v in
+    let few : m .rules ≤ 256 = z .rules in
+    let fewer : m .moves ≤ 128 = z .moves in
+    let r : m .rules % 65536 ≡ m .rules = omega arith in
+    let k : m .moves % 256 ≡ m .moves = omega arith in
+    e ∙ rw (r, k)

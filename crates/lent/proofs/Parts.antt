@@ -1,22 +1,26 @@
 -- The cells of a lent model and the numbers and truths of its record that they hold. Assumes nothing.
-use mathlib.Core.Bool.{Bool, true, false}
+use mathlib.Core.Bool.{Bool, true, false, _&&_}
 use mathlib.Core.List.{List}
-use mathlib.Core.Path.{_≡_, sym, ap, _∙_, subst}
+use mathlib.Core.Path.{_≡_, refl, sym, ap, _∙_, subst}
 use Prim.Native.Nat.{ℕ, _+_, _*_, _<_, _≤_}
 use native.Mathlib.Nat.{min-le-left}
 use native.Mathlib.Omega.{arith}
-use lib.Dec.{ltb}
+use lib.Dec.{leb, ltb}
 use lib.ListN.{length, getD, drop, length-take, List·getD-map, List·getD-eq-default}
 use lib.Seq.{getD-take, getD-drop}
 use borrow.Author.Tests.{eq-eqb, ne-eqb, lt-ltb, le-ltb}
+use Rattle.product.specs.Lists.{upTo, all}
 use Rattle.product.specs.Product.{Step}
 use Rattle.model.specs.declared.Model.{Model}
 use Rattle.model.specs.declared.Shape.{Shape}
 use Rattle.model.specs.declared.Next.{Next}
 use Rattle.model.specs.declared.Next.the-variants.{Stuck}
-use Rattle.model.specs.Model.{shown, there, nextAt, productOf}
+use Rattle.model.specs.declared.Move.{Move}
+use Rattle.model.specs.Valid.{sizesIn, symbolsIn, ruleRowIn, moveRowIn, valid}
+use Rattle.model.specs.Model.{inRow, ruleBy, moveAt, shown, there, nextAt, productOf}
 use Rattle.model.specs.Answers.{nextAs}
-use Rattle.lent.specs.Lending.{part, isTrue, truths, shapeIn, modelIn, nextBy}
+use Rattle.lent.specs.declared.Row.{Row}
+use Rattle.lent.specs.Lending.{part, isTrue, truths, shapeIn, rowIn, modelIn, nextBy}
 
 module _ (cells : List ℕ) (from n : ℕ) where
   -- number i of a part lies at the place p
@@ -39,6 +43,45 @@ module _ (cells : List ℕ) (from n : ℕ) where
 
   pub past-truths : (i : ℕ) → n ≤ i → false ≡ getD (truths (part from n cells)) i false
   past-truths i l = ap isTrue (past-part i l) ∙ truth-part i
+
+-- the row of rule r
+module _ (cells : List ℕ) (r : ℕ) where
+  pub no-row : 256 ≤ r → record { kind = 0; symbol = 0; over = 0; under = 0 } ≡ rowIn cells r
+  no-row l =
+      let past : (i : ℕ) → 0 ≡ inRow 4 (part 0 1024 cells) r i = λ i. past-part cells 0 1024 (r * 4 + i) (omega arith) in
+      rw (← past 0, ← past 1, ← past 2, ← past 3)
+
+  pub row-cells : r < 256
+      → record { kind = getD cells (r * 4) 0; symbol = getD cells (r * 4 + 1) 0; over = getD cells (r * 4 + 2) 0; under = getD cells (r * 4 + 3) 0 } ≡ rowIn cells r
+  row-cells l =
+      let there : (i p : ℕ) → p ≡ r * 4 + i → i < 4 → getD cells p 0 ≡ inRow 4 (part 0 1024 cells) r i = λ i p e k. in-part cells 0 1024 (r * 4 + i) p (omega arith) (omega arith) in
+      rw (
+        ← there 0 (r * 4) (omega arith) (omega arith),
+        ← there 1 (r * 4 + 1) refl (omega arith),
+        ← there 2 (r * 4 + 2) refl (omega arith),
+        ← there 3 (r * 4 + 3) refl (omega arith),
+      )
+
+-- a row that was read is in range where the rule is
+pub as-read : (cells : List ℕ) (symbols r : ℕ) {w : Row} {b : Bool} → w ≡ rowIn cells r
+    → b ≡ leb (w .kind) 2 && symbolsIn symbols (ruleBy (w .kind) (w .symbol) (w .over) (w .under)) → b ≡ ruleRowIn symbols (part 0 1024 cells) r
+as-read cells symbols r e t = t ∙ ap (λ (w : Row). leb (w .kind) 2 && symbolsIn symbols (ruleBy (w .kind) (w .symbol) (w .over) (w .under))) e
+
+pub move-read : (rows : List ℕ) (states events v : ℕ) {μ : Move} {b : Bool} → μ ≡ moveAt rows v
+    → b ≡ ltb (μ .source) states && ltb (μ .event) events && ltb (μ .target) states → b ≡ moveRowIn states events rows v
+move-read rows states events v e t = t ∙ ap (λ (μ : Move). ltb (μ .source) states && ltb (μ .event) events && ltb (μ .target) states) e
+
+-- the tests of a model, by the shape that was read
+abbrev tests : Shape → List ℕ → Bool
+tests s cells =
+    sizesIn (s .symbols) (s .states) (s .events) (s .rules) (s .moves)
+    && (ltb (s .startstate) (s .states) && ltb (s .startsymbol) (s .symbols))
+    && all (ruleRowIn (s .symbols) (part 0 1024 cells)) (upTo (s .rules))
+    && all (moveRowIn (s .states) (s .events) (part 1024 384 cells)) (upTo (s .moves))
+
+pub valid-read : (cells : List ℕ) {s : Shape} {b : Bool} → s ≡ shapeIn cells → b ≡ tests s cells → b ≡ valid (modelIn cells)
+unfolding valid modelIn
+valid-read cells e t = t ∙ ap (λ (s : Shape). tests s cells) e
 
 -- what a symbol shows
 module _ (cells : List ℕ) (g e : ℕ) where
@@ -69,9 +112,7 @@ module _ (m : Model) (r v q : ℕ) where
   named = record { by-rule = r; by-move = v }
 
   pub not-there : there m named ≡ false → Stuck ≡ nextAs (nextBy (productOf m) r v q)
-
   not-there e = rw e
 
   pub is-there : {n : Next} → there m named ≡ true → n ≡ nextAs (nextAt (m .rulerows) (m .moverows) (m .shows) r v q) → n ≡ nextAs (nextBy (productOf m) r v q)
-
   is-there e i = rw e i

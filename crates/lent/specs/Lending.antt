@@ -10,8 +10,9 @@ use lib.ListN.{getD, take, drop}
 use Rattle.product.specs.Product.{Product}
 use Rattle.model.specs.declared.Model.{Model}
 use Rattle.model.specs.declared.Shape.{Shape}
-use Rattle.model.specs.Model.{productOf}
+use Rattle.model.specs.Model.{inRow, productOf}
 use Rattle.model.specs.Valid.{ofParts}
+use Rattle.lent.specs.declared.Row.{Row}
 
 -- n cells from a place on
 abbrev pub part : (from n : ℕ) → List ℕ → List ℕ
@@ -39,6 +40,15 @@ shapeIn cells = record {
   startsymbol = getD cells 1932 0;
   rules = getD cells 1933 0 + 256 * getD cells 1934 0;
   moves = getD cells 1935 0;
+}
+
+-- the numbers of the row of rule r
+abbrev pub rowIn : List ℕ → (r : ℕ) → Row
+rowIn cells r = record {
+  kind = inRow 4 (part 0 1024 cells) r 0;
+  symbol = inRow 4 (part 0 1024 cells) r 1;
+  over = inRow 4 (part 0 1024 cells) r 2;
+  under = inRow 4 (part 0 1024 cells) r 3;
 }
 
 -- the record that the bytes are

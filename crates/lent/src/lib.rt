@@ -2,11 +2,10 @@
 ghost use mathlib.Core.Path.{_≡_};
 ghost use Prim.Native.Nat.{_+_, _*_, _≤_, _<_};
 ghost use lib.ListN.{length, getD};
-ghost use Rattle.lent.specs.Lending.{part, shapeIn, modelIn, productIn, nextBy};
+ghost use Rattle.lent.specs.Lending.{part, shapeIn, rowIn, modelIn, productIn, nextBy};
 ghost use Rattle.product.specs.Product.{symbol};
 ghost use Rattle.model.specs.Answers.{meant, nextAs, ruleAs};
 ghost use Rattle.model.specs.Model.{inRow, moveAt, shown, there};
-ghost use Rattle.model.specs.Valid.{valid};
 use model::Move;
 use model::Next;
 use model::Rule;
@@ -15,9 +14,19 @@ use model::Shape;
 // A model's bytes.
 pub type Lent = [u8; 1936];
 
+// The numbers of a rule's row: its kind (0 exit, 1 direct, 2 call), its symbol, and the symbols that it puts on top and under that.
+pub struct Row {
+    pub kind: u8,
+    pub symbol: u8,
+    pub over: u8,
+    pub under: u8,
+}
+
 mod pack; // a record's bytes
+mod valid; // which models are valid
 
 pub use pack::lend;
+pub use valid::is_valid;
 
 fn wide(b: u8) -> usize
     ensures { λ n. ⌜ (n ≡ b) × (n ≤ 255) ⌝ }
@@ -43,15 +52,25 @@ pub fn shape(m: &Lent) -> Shape
     }
 }
 
-// Number i of the row of rule r; 0 where there is no such row.
-fn in_rule(m: &Lent, r: usize, i: usize) -> usize
-    requires { ⌜ i < 4 ⌝ }
-    ensures { λ n. ⌜ n ≡ inRow 4 (part 0 1024 (now (m .entry))) r i ⌝ }
+// The row of rule r; zeros where there is none.
+pub(crate) fn row_at(m: &Lent, r: usize) -> Row
+    ensures { λ w. ⌜ w ≡ rowIn (now (m .entry)) r ⌝ }
 {
     if 256 <= r {
-        return 0;
+        return Row {
+            kind: 0,
+            symbol: 0,
+            over: 0,
+            under: 0,
+        };
     }
-    wide(m[r * 4 + i])
+    let at = r * 4;
+    Row {
+        kind: m[at],
+        symbol: m[at + 1],
+        over: m[at + 2],
+        under: m[at + 3],
+    }
 }
 
 // Number i of the row of move v.
@@ -69,20 +88,20 @@ fn in_move(m: &Lent, v: usize, i: usize) -> usize
 pub fn rule_at(m: &Lent, r: usize) -> Rule
     ensures { λ ρ. ⌜ ρ ≡ ruleAs (productIn (now (m .entry)) .rule r) ⌝ }
 {
-    let kind = in_rule(m, r, 0);
-    let g = in_rule(m, r, 1);
-    if kind == 0 {
+    let row = row_at(m, r);
+    let g = row.symbol as usize;
+    if row.kind == 0 {
         return Rule::Exit(g);
     }
-    let g1 = in_rule(m, r, 2);
-    if kind == 1 {
+    let g1 = row.over as usize;
+    if row.kind == 1 {
         return Rule::Direct(g, g1);
     }
-    Rule::Call(g, g1, in_rule(m, r, 3))
+    Rule::Call(g, g1, row.under as usize)
 }
 
 // The move of row v.
-fn move_at(m: &Lent, v: usize) -> Move
+pub(crate) fn move_at(m: &Lent, v: usize) -> Move
     ensures { λ μ. ⌜ μ ≡ moveAt (part 1024 384 (now (m .entry))) v ⌝ }
 {
     Move {

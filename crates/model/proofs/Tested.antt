@@ -19,5 +19,8 @@ by-kind n (suc zero) g g1 g2 = refl
 by-kind n (suc (suc zero)) g g1 g2 = ap (λ b. ltb g n && (ltb g1 n && b)) (sym (and-true (ltb g2 n)))
 by-kind n (suc (suc (suc k))) g g1 g2 = rw (lt-leb (suc (suc (suc k))) 2 (omega arith))
 
+pub kind-tested : (n kind g g1 g2 : ℕ) {b : Bool} → b ≡ tests n kind g g1 g2 → b ≡ leb kind 2 && symbolsIn n (ruleBy kind g g1 g2)
+kind-tested n kind g g1 g2 e = e ∙ by-kind n kind g g1 g2
+
 pub rule-tested : (n : ℕ) (rows : List ℕ) (r : ℕ) {b : Bool} → b ≡ tests n (inRow 4 rows r 0) (inRow 4 rows r 1) (inRow 4 rows r 2) (inRow 4 rows r 3) → b ≡ ruleRowIn n rows r
-rule-tested n rows r e = e ∙ by-kind n (inRow 4 rows r 0) (inRow 4 rows r 1) (inRow 4 rows r 2) (inRow 4 rows r 3)
+rule-tested n rows r e = kind-tested n (inRow 4 rows r 0) (inRow 4 rows r 1) (inRow 4 rows r 2) (inRow 4 rows r 3) e

@@ -53,5 +53,6 @@ mod range; // which records are valid
 
 pub use range::is_valid;
 pub use range::parts_valid;
+pub use range::sizes_in;
 pub use rows::rule_at;
 pub use step::next_state;

@@ -16,7 +16,7 @@ fn within(low: usize, high: usize, n: usize) -> bool
 }
 
 // The counts are within their sizes.
-fn sizes_in(symbols: usize, states: usize, events: usize, rules: usize, moves: usize) -> bool
+pub fn sizes_in(symbols: usize, states: usize, events: usize, rules: usize, moves: usize) -> bool
     ensures { λ b. ⌜ b ≡ sizesIn symbols states events rules moves ⌝ }
 {
     if !within(1, 32, symbols) {
