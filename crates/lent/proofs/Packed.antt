@@ -136,8 +136,8 @@ module _ (m : Model) (c0 c1 c2 c3 c4 c5 : List ℕ) (room : length c0 ≡ 1936)
       (ap (part 1928 8) p5 ∙ part-put c4 1928 (shapeOf m) e5 8 refl)
 
 -- the bytes of a valid record are that record
-pub lends : (m : Model) {cells : List ℕ} → T (valid m) → modelIn cells ≡ held m → modelIn cells ≡ m
-lends m v e =
+pub lends : (m : Model) (cells : List ℕ) → T (valid m) → modelIn cells ≡ held m → modelIn cells ≡ m
+lends m cells v e =
     let z : Sizes m = valid-sizes m v in
     let few : m .rules ≤ 256 = z .rules in
     let fewer : m .moves ≤ 128 = z .moves in
