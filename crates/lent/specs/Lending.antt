@@ -4,12 +4,14 @@
 use mathlib.Core.Bool.{Bool, cond}
 use mathlib.Core.List.{List, map}
 use mathlib.Core.Option.{Option}
-use Prim.Native.Nat.{ℕ, _+_, _*_, _%_}
+use Prim.Native.Nat.{ℕ, _+_, _*_, _%_, _≤_}
 use lib.Dec.{eqb}
 use lib.ListN.{getD, take, drop}
 use Rattle.product.specs.Product.{Product}
 use Rattle.model.specs.declared.Model.{Model}
 use Rattle.model.specs.declared.Shape.{Shape}
+use Rattle.model.specs.declared.Next.{Next}
+use Rattle.model.specs.declared.Next.the-variants.{To, Stuck}
 use Rattle.model.specs.Model.{inRow, productOf}
 use Rattle.model.specs.Valid.{ofParts}
 use Rattle.lent.specs.declared.Row.{Row}
@@ -62,6 +64,11 @@ productIn cells = productOf (modelIn cells)
 -- the state after rule r and move v from q
 abbrev pub nextBy : Product → (r v q : ℕ) → Option ℕ
 nextBy p r v q = p .next (record { by-rule = r; by-move = v }) q
+
+-- a state that was read is a byte
+abbrev pub InByte : Next → Type 0
+InByte Stuck = Unit {0}
+InByte (To q) = q ≤ 255
 
 -- A record with its counts as far as the bytes hold them: 65,536 rules are as none, 256 moves likewise. A valid record has fewer.
 abbrev pub held : Model → Model

@@ -2,7 +2,7 @@
 ghost use mathlib.Core.Path.{_≡_};
 ghost use Prim.Native.Nat.{_+_, _*_, _≤_, _<_};
 ghost use lib.ListN.{length, getD};
-ghost use Rattle.lent.specs.Lending.{part, shapeIn, rowIn, modelIn, productIn, nextBy};
+ghost use Rattle.lent.specs.Lending.{part, shapeIn, rowIn, modelIn, productIn, nextBy, InByte};
 ghost use Rattle.product.specs.Product.{symbol};
 ghost use Rattle.model.specs.Answers.{meant, nextAs, ruleAs};
 ghost use Rattle.model.specs.Model.{inRow, moveAt, shown, there};
@@ -77,6 +77,7 @@ pub(crate) fn row_at(m: &Lent, r: usize) -> Row
 fn in_move(m: &Lent, v: usize, i: usize) -> usize
     requires { ⌜ i < 3 ⌝ }
     ensures { λ n. ⌜ n ≡ inRow 3 (part 1024 384 (now (m .entry))) v i ⌝ }
+    ensures { λ n. ⌜ n ≤ 255 ⌝ }
 {
     if 128 <= v {
         return 0;
@@ -103,6 +104,7 @@ pub fn rule_at(m: &Lent, r: usize) -> Rule
 // The move of row v.
 pub(crate) fn move_at(m: &Lent, v: usize) -> Move
     ensures { λ μ. ⌜ μ ≡ moveAt (part 1024 384 (now (m .entry))) v ⌝ }
+    ensures { λ μ. ⌜ μ .target ≤ 255 ⌝ }
 {
     Move {
         source: in_move(m, v, 0),
@@ -167,6 +169,7 @@ fn has(m: &Lent, r: usize, v: usize) -> bool
 // shows its event.
 pub fn next_state(m: &Lent, r: usize, v: usize, q: usize) -> Next
     ensures { λ n. ⌜ n ≡ nextAs (nextBy (productIn (now (m .entry))) r v q) ⌝ }
+    ensures { λ n. ⌜ InByte n ⌝ }
 {
     if !has(m, r, v) {
         return Next::Stuck;

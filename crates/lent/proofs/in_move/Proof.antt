@@ -12,7 +12,7 @@ use Rattle.lent.proofs.in_move.Lts as lts
 use Rattle.lent.proofs.wide.Reads as wide-reads
 
 returns : tie.Need-returns
-returns c = let a = c .before .args in past-part (now (a .m)) 1024 384 (a .v * 3 + a .i) (omega arith)
+returns c = let a = c .before .args in (past-part (now (a .m)) 1024 384 (a .v * 3 + a .i) (omega arith), omega arith)
 
 mul-wide : tie.Need-mul-wide
 mul-wide c = search needs
@@ -32,7 +32,7 @@ wide-requires c κs = search needs
 returns-2 : tie.Need-returns-2
 returns-2 c =
     let a = c .before .before .before .args in
-    c .wide .ensures .0 ∙ in-part (now (a .m)) 1024 384 (a .v * 3 + a .i) _ (omega arith) (omega arith)
+    (c .wide .ensures .0 ∙ in-part (now (a .m)) 1024 384 (a .v * 3 + a .i) _ (omega arith) (omega arith), c .wide .ensures .1)
 
 pub in-move-spec : {M : Type 1} → statement M
 in-move-spec =

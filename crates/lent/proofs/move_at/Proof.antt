@@ -13,7 +13,7 @@ in-move-requires-3 : tie.Need-in-move-requires-3
 in-move-requires-3 c κs = search needs
 
 returns : tie.Need-returns
-returns c = rw (← c .before .before .in-move .ensures, ← c .before .in-move2 .ensures, ← c .in-move3 .ensures)
+returns c = (rw (← c .before .before .in-move .ensures .0, ← c .before .in-move2 .ensures .0, ← c .in-move3 .ensures .0), c .in-move3 .ensures .1)
 
 pub move-at-spec : {M : Type 1} → statement M
 move-at-spec = tie.close (tie.spec in-move-requires in-move-requires-2 in-move-requires-3 returns)

@@ -15,7 +15,7 @@ has-requires c κs = search needs
 returns : tie.Need-returns
 returns c =
     let a = c .before .before .args in
-    not-there (modelIn (now (a .m))) (a .r) (a .v) (a .q) (sym (c .before .has .ensures) ∙ not-true (c .before .has .result) (c .if1 .taken))
+    (not-there (modelIn (now (a .m))) (a .r) (a .v) (a .q) (sym (c .before .has .ensures) ∙ not-true (c .before .has .result) (c .if1 .taken)), tt)
 
 move-at-requires : tie.Need-move-at-requires
 move-at-requires c κs = search needs
@@ -27,8 +27,11 @@ returns-2 c =
     let had = by .before .before in
     let a = had .before .args in
     let m = modelIn (now (a .m)) in
-    is-there m (a .r) (a .v) (a .q) (sym (had .has .ensures) ∙ not-false (had .has .result) (by .before .if1 .left))
-    (is-elsewhere (m .rulerows) (m .moverows) (m .shows) (a .r) (a .v) (a .q) (by .move-at .ensures) (c .if2 .taken))
+    (
+      is-there m (a .r) (a .v) (a .q) (sym (had .has .ensures) ∙ not-false (had .has .result) (by .before .if1 .left))
+      (is-elsewhere (m .rulerows) (m .moverows) (m .shows) (a .r) (a .v) (a .q) (by .move-at .ensures .0) (c .if2 .taken)),
+      tt,
+    )
 
 rule-at-requires : tie.Need-rule-at-requires
 rule-at-requires c κs = search needs
@@ -47,9 +50,12 @@ returns-3 c =
     let had = by .before .before in
     let a = had .before .args in
     let m = modelIn (now (a .m)) in
-    is-there m (a .r) (a .v) (a .q) (sym (had .has .ensures) ∙ not-false (had .has .result) (by .before .if1 .left))
-    (is-unseen (m .rulerows) (m .moverows) (m .shows) (a .r) (a .v) (a .q) (by .move-at .ensures) (named .before .if2 .left) (named .rule-at .ensures)
-    (c .before .before .symbol .ensures) (c .before .shows .ensures) (not-true (c .before .shows .result) (c .if3 .taken)))
+    (
+      is-there m (a .r) (a .v) (a .q) (sym (had .has .ensures) ∙ not-false (had .has .result) (by .before .if1 .left))
+      (is-unseen (m .rulerows) (m .moverows) (m .shows) (a .r) (a .v) (a .q) (by .move-at .ensures .0) (named .before .if2 .left) (named .rule-at .ensures)
+      (c .before .before .symbol .ensures) (c .before .shows .ensures) (not-true (c .before .shows .result) (c .if3 .taken))),
+      tt,
+    )
 
 returns-4 : tie.Need-returns-4
 unfolding modelIn
@@ -59,9 +65,12 @@ returns-4 c =
     let had = by .before .before in
     let a = had .before .args in
     let m = modelIn (now (a .m)) in
-    is-there m (a .r) (a .v) (a .q) (sym (had .has .ensures) ∙ not-false (had .has .result) (by .before .if1 .left))
-    (is-step (m .rulerows) (m .moverows) (m .shows) (a .r) (a .v) (a .q) (by .move-at .ensures) (named .before .if2 .left) (named .rule-at .ensures)
-    (c .before .before .symbol .ensures) (c .before .shows .ensures) (not-false (c .before .shows .result) (c .if3 .left)))
+    (
+      is-there m (a .r) (a .v) (a .q) (sym (had .has .ensures) ∙ not-false (had .has .result) (by .before .if1 .left))
+      (is-step (m .rulerows) (m .moverows) (m .shows) (a .r) (a .v) (a .q) (by .move-at .ensures .0) (named .before .if2 .left) (named .rule-at .ensures)
+      (c .before .before .symbol .ensures) (c .before .shows .ensures) (not-false (c .before .shows .result) (c .if3 .left))),
+      by .move-at .ensures .1,
+    )
 
 pub next-state-spec : {M : Type 1} → statement M
 next-state-spec =

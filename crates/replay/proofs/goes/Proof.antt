@@ -30,7 +30,7 @@ next-state-requires c κs = search needs
 returns-2 : tie.Need-returns-2
 returns-2 c =
     let a = c .before .before .before .before .args in
-    its-top (productIn (now (a .m))) (loaded (a .n)) (a .q) (a .g) (c .before .before .before .rule-at .ensures) (c .before .before .replaces .ensures) (c .before .if1 .left) (c .next-state .ensures)
+    its-top (productIn (now (a .m))) (loaded (a .n)) (a .q) (a .g) (c .before .before .before .rule-at .ensures) (c .before .before .replaces .ensures) (c .before .if1 .left) (c .next-state .ensures .0)
 
 pub goes-spec : {M : Type 1} → statement M
 goes-spec =

@@ -14,14 +14,14 @@ returns : tie.Need-returns
 returns c =
     let read = c .before .before in
     let a = read .before .args in
-    move-read (part 1024 384 (now (a .m))) (a .states) (a .events) (a .v) (read .move-at .ensures) (rw (le-ltb _ _ (c .if1 .taken)))
+    move-read (part 1024 384 (now (a .m))) (a .states) (a .events) (a .v) (read .move-at .ensures .0) (rw (le-ltb _ _ (c .if1 .taken)))
 
 returns-2 : tie.Need-returns-2
 returns-2 c =
     let one = c .before .before in
     let read = one .before .before in
     let a = read .before .args in
-    move-read (part 1024 384 (now (a .m))) (a .states) (a .events) (a .v) (read .move-at .ensures)
+    move-read (part 1024 384 (now (a .m))) (a .states) (a .events) (a .v) (read .move-at .ensures .0)
     (rw (lt-ltb _ _ (one .if1 .left), le-ltb _ _ (c .if2 .taken)))
 
 returns-3 : tie.Need-returns-3
@@ -29,7 +29,7 @@ returns-3 c =
     let one = c .before .before .before in
     let read = one .before .before in
     let a = read .before .args in
-    move-read (part 1024 384 (now (a .m))) (a .states) (a .events) (a .v) (read .move-at .ensures)
+    move-read (part 1024 384 (now (a .m))) (a .states) (a .events) (a .v) (read .move-at .ensures .0)
     (rw (lt-ltb _ _ (one .if1 .left), lt-ltb _ _ (c .before .if2 .left)))
 
 pub move-in-spec : {M : Type 1} → statement M
