@@ -60,13 +60,7 @@ fn some_head<'a>(m: &'a Lent, heads: &'a [u16], size: Size) -> Goal
 }
 
 // The first triple that is held from the state s and the symbol a into a final state.
-fn some_triple<'a>(
-    m: &'a Lent,
-    triples: &'a [u16],
-    size: Size,
-    s: usize,
-    a: usize,
-) -> Goal
+fn some_triple<'a>(m: &'a Lent, triples: &'a [u16], size: Size, s: usize, a: usize) -> Goal
     ensures { λ f. ⌜ f ≡ goalAs (someTriple (productIn (now (m .entry)) .final) (size .symbols) (size .states) (now (triples .entry)) s a) ⌝ }
 {
     let states = size.states as usize;

@@ -26,10 +26,9 @@ returns-2 c =
     let by = c .before .before in
     let had = by .before .before in
     let a = had .before .args in
-    let m = modelIn (now (a .m)) in
-    (
+    let m = modelIn (now (a .m)) in (
       is-there m (a .r) (a .v) (a .q) (sym (had .has .ensures) ∙ not-false (had .has .result) (by .before .if1 .left))
-      (is-elsewhere (m .rulerows) (m .moverows) (m .shows) (a .r) (a .v) (a .q) (by .move-at .ensures .0) (c .if2 .taken)),
+          (is-elsewhere (m .rulerows) (m .moverows) (m .shows) (a .r) (a .v) (a .q) (by .move-at .ensures .0) (c .if2 .taken)),
       tt,
     )
 
@@ -49,11 +48,10 @@ returns-3 c =
     let by = named .before .before .before in
     let had = by .before .before in
     let a = had .before .args in
-    let m = modelIn (now (a .m)) in
-    (
+    let m = modelIn (now (a .m)) in (
       is-there m (a .r) (a .v) (a .q) (sym (had .has .ensures) ∙ not-false (had .has .result) (by .before .if1 .left))
-      (is-unseen (m .rulerows) (m .moverows) (m .shows) (a .r) (a .v) (a .q) (by .move-at .ensures .0) (named .before .if2 .left) (named .rule-at .ensures)
-      (c .before .before .symbol .ensures) (c .before .shows .ensures) (not-true (c .before .shows .result) (c .if3 .taken))),
+          (is-unseen (m .rulerows) (m .moverows) (m .shows) (a .r) (a .v) (a .q) (by .move-at .ensures .0) (named .before .if2 .left) (named .rule-at .ensures)
+          (c .before .before .symbol .ensures) (c .before .shows .ensures) (not-true (c .before .shows .result) (c .if3 .taken))),
       tt,
     )
 
@@ -64,11 +62,10 @@ returns-4 c =
     let by = named .before .before .before in
     let had = by .before .before in
     let a = had .before .args in
-    let m = modelIn (now (a .m)) in
-    (
+    let m = modelIn (now (a .m)) in (
       is-there m (a .r) (a .v) (a .q) (sym (had .has .ensures) ∙ not-false (had .has .result) (by .before .if1 .left))
-      (is-step (m .rulerows) (m .moverows) (m .shows) (a .r) (a .v) (a .q) (by .move-at .ensures .0) (named .before .if2 .left) (named .rule-at .ensures)
-      (c .before .before .symbol .ensures) (c .before .shows .ensures) (not-false (c .before .shows .result) (c .if3 .left))),
+          (is-step (m .rulerows) (m .moverows) (m .shows) (a .r) (a .v) (a .q) (by .move-at .ensures .0) (named .before .if2 .left) (named .rule-at .ensures)
+          (c .before .before .symbol .ensures) (c .before .shows .ensures) (not-false (c .before .shows .result) (c .if3 .left))),
       by .move-at .ensures .1,
     )
 
