@@ -5,7 +5,7 @@ ghost use lib.ListN.{length, getD};
 ghost use Rattle.lent.specs.Lending.{part, shapeIn, rowIn, modelIn, productIn, nextBy, InByte};
 ghost use Rattle.product.specs.Product.{symbol};
 ghost use Rattle.model.specs.Answers.{meant, nextAs, ruleAs};
-ghost use Rattle.model.specs.Model.{inRow, moveAt, shown, there};
+ghost use Rattle.model.specs.Model.{inRow, move, shown, there};
 use model::Move;
 use model::Next;
 use model::Rule;
@@ -101,9 +101,9 @@ pub fn rule_at(m: &Lent, r: usize) -> Rule
     Rule::Call(g, g1, row.under as usize)
 }
 
-// The move of row v.
-pub(crate) fn move_at(m: &Lent, v: usize) -> Move
-    ensures { λ μ. ⌜ μ ≡ moveAt (part 1024 384 (now (m .entry))) v ⌝ }
+// Move v.
+pub fn move_at(m: &Lent, v: usize) -> Move
+    ensures { λ μ. ⌜ μ ≡ move (modelIn (now (m .entry))) v ⌝ }
     ensures { λ μ. ⌜ μ .target ≤ 255 ⌝ }
 {
     Move {
