@@ -5,7 +5,7 @@ use Prim.Native.Nat.{ℕ, _+_, _/_, _%_, min}
 use lib.ListN.{getD}
 use Rattle.product.specs.Lists.{upTo, over}
 use Rattle.product.specs.Product as product
-use Rattle.line.specs.Line.{exit, direct, call}
+use Rattle.modelline.specs.Line.{exit, direct, call}
 use Rattle.model.specs.declared.Model.{Model}
 use Rattle.model.specs.Model.{ruleAt, moveAt}
 use Rattle.print.specs.Bytes.{lineBytes, namedBytes}
