@@ -10,7 +10,8 @@ use Rattle.product.specs.Lists.{over, upTo}
 use Rattle.product.specs.Product.{Step}
 use Rattle.product.specs.Facts.{head, consequences}
 use Rattle.text.specs.Split.{first, sameBytes}
-use Rattle.numbers.specs.Field.{fieldsOf}
+use Rattle.numbers.specs.declared.Numbers.{Numbers}
+use Rattle.numbers.specs.Field.{field, fieldsOf}
 use Rattle.numbers.specs.Digits.{digitsOf}
 use Rattle.table.specs.declared.Size.{Size}
 use Rattle.table.specs.Cells.{headCount, tripleCount, longEnough, headIn, tripleIn, putHead, putTriple, cleared, view}
@@ -25,9 +26,10 @@ use Rattle.model.specs.Model.{ruleAt, nextAt}
 use Rattle.model.specs.Valid.{ofParts, valid}
 use Rattle.bits.specs.Matrix.{multiplied, image}
 use Rattle.steps.specs.Steps.{classOf, classSteps, statesAfter}
-use Rattle.line.specs.declared.Word.{Word}
-use Rattle.line.specs.declared.Line.{Line}
-use Rattle.line.specs.Line.{lineAt}
+use Rattle.line.specs.Line as line
+use Rattle.modelline.specs.declared.Line.{Line}
+use Rattle.modelline.specs.Line as modelline
+use Rattle.listingline.specs.Line as listingline
 use Rattle.limits.specs.declared.Counts as limits
 use Rattle.limits.specs.Limits.{refusal, tests}
 use Rattle.draft.specs.declared.Outline.{Outline}
@@ -35,7 +37,7 @@ use Rattle.draft.specs.declared.Noted.{Noted}
 use Rattle.draft.specs.Draft.{whole, noted}
 use Rattle.draft.specs.Lines.{takeLine}
 use Rattle.fitting.specs.Fits.{fitOf}
-use Rattle.ranking.specs.Rank.{headFault, tripleFault, Ranked}
+use Rattle.ranking.specs.Rank.{headFault, headPut, tripleFault, triplePut, Ranked}
 use Rattle.rows.specs.declared.End.{End}
 use Rattle.rows.specs.State.{before, ended}
 use Rattle.rows.specs.Lines.{readText}
@@ -94,18 +96,20 @@ pub record OneAnswer : Type 0 where
   pub class-steps : (moverows : List ℕ) (shows : List Bool) (moves symbols : ℕ) → One (λ r. r ≡ classSteps moverows shows moves symbols)
   pub class-of : (rulerows : List ℕ) (r : ℕ) → One (λ c. (c ≡ classOf rulerows r) × (c < 256))
   pub states-after : (rulerows tg : List ℕ) (r from : ℕ) → One (λ x. x ≡ statesAfter rulerows tg r from)
-  -- line
-  pub read-line : (s : List ℕ) → One (λ r. r ≡ lineAt s)
+  -- line, modelline and listingline
+  pub spells : (s w : List ℕ) → One (λ r. r ≡ line.spells s w)
+  pub field-end : (s : List ℕ) → One (λ r. r ≡ length (field s))
+  pub read-behind : (s : List ℕ) (e : ℕ) → One (λ r. r ≡ line.behind s e)
+  pub model-line : (s : List ℕ) → One (λ r. r ≡ modelline.lineAt s)
+  pub listing-line : (s : List ℕ) → One (λ r. r ≡ listingline.lineAt s)
   -- limits and draft
-  pub refusal-of : (k : limits.Counts) (w : Word) (a b c : ℕ) → One (λ r. r ≡ refusal (tests k w a b c))
+  pub refusal-of : (k : limits.Counts) (l : Line) → One (λ r. r ≡ refusal (tests k (l .word) (l .numbers)))
   pub take-line : (o : Outline) (finals shows : List Bool) (rulerows moverows : List ℕ) (l : Line)
       → One {A = Noted × List Bool × List Bool × List ℕ × List ℕ} (λ x. noted (x .0) (x .1) (x .2) (x .3) (x .4) ≡ takeLine (whole o finals shows rulerows moverows) l)
   -- fitting, ranking and rows
   pub measure : (m : Model) (heads triples : ℕ) → One (λ r. r ≡ fitOf m heads triples)
-  pub rank-head : (z : Size) (begun : ℕ) (cells : List ℕ) (q g rank : ℕ)
-      → Both (λ r after. Ranked cells after (headFault z begun cells q g rank) (putHead (z .symbols) (z .states) cells q g rank) r)
-  pub rank-triple : (z : Size) (begun : ℕ) (cells : List ℕ) (q g e rank : ℕ)
-      → Both (λ r after. Ranked cells after (tripleFault z begun cells q g e rank) (putTriple (z .symbols) (z .states) cells q g e rank) r)
+  pub rank-head : (z : Size) (begun : ℕ) (cells : List ℕ) (n : Numbers) → Both (λ r after. Ranked cells after (headFault z begun cells n) (headPut z cells n) r)
+  pub rank-triple : (z : Size) (begun : ℕ) (cells : List ℕ) (n : Numbers) → Both (λ r after. Ranked cells after (tripleFault z begun cells n) (triplePut z cells n) r)
   pub read-text : (z : Size) (heads triples text : List ℕ) → One {A = End × List ℕ × List ℕ} (λ x. ended (x .0) (x .1) (x .2) ≡ readText z (before heads triples) text)
   -- splitter
   pub listing-at : (text : List ℕ) → One (λ r. r ≡ part.place text)

@@ -1,5 +1,5 @@
 -- Laws about the definitions of specs/. Assumes nothing.
-pub mod Malformed
-pub mod Words
+pub mod Ends
 pub mod Spelled
-pub mod Fields
+pub mod Behind
+pub mod Words

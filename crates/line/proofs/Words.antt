@@ -1,34 +1,21 @@
--- A word found from the last of the words to the first, or looked for alone, is the word that is spelled. Assumes nothing.
+-- A line's word and what stands behind it, for the words of any text. Assumes nothing.
 use mathlib.Core.List.{List}
-use mathlib.Core.Bool.{true}
-use mathlib.Core.Path.{_≡_, ap, sym}
+use mathlib.Core.Path.{_≡_, ap, sym, _∙_}
 use Prim.Native.Nat.{ℕ}
-use Rattle.text.specs.Split.{pick, sameBytes}
-use Rattle.text.proofs.Bytes.{same-equal}
-use Rattle.line.specs.Line.{size, start, final, event, exit, direct, call, move, safe, head, erase, wordOf}
-use Rattle.line.specs.declared.Word.{Word}
-use Rattle.line.specs.declared.Word.the-variants.{Size, Start, Final, Event, Exit, Direct, Call, Move, Safe, Head, Erase, Malformed}
+use lib.ListN.{length}
+use Rattle.text.specs.Split.{first, later}
+use Rattle.numbers.specs.declared.FieldsRead.{FieldsRead}
+use Rattle.numbers.specs.Number.{numbersOf}
+use Rattle.numbers.specs.Field.{field, fieldsBy}
+use Rattle.line.specs.Line.{behind}
+use Rattle.line.proofs.Behind.{behind-first}
 
-pub found : (s : List ℕ) {v1 v2 v3 v4 v5 v6 v7 v8 v9 v10 v11 : Word}
-    → v1 ≡ pick (sameBytes s erase) Erase Malformed
-    → v2 ≡ pick (sameBytes s head) Head v1
-    → v3 ≡ pick (sameBytes s safe) Safe v2
-    → v4 ≡ pick (sameBytes s move) Move v3
-    → v5 ≡ pick (sameBytes s call) Call v4
-    → v6 ≡ pick (sameBytes s direct) Direct v5
-    → v7 ≡ pick (sameBytes s exit) Exit v6
-    → v8 ≡ pick (sameBytes s event) Event v7
-    → v9 ≡ pick (sameBytes s final) Final v8
-    → v10 ≡ pick (sameBytes s start) Start v9
-    → v11 ≡ pick (sameBytes s size) Size v10
-    → v11 ≡ wordOf s
-unfolding wordOf
-found s p1 p2 p3 p4 p5 p6 p7 p8 p9 p10 p11 = rw (p11, p10, p9, p8, p7, p6, p5, p4, p3, p2, p1)
+module _ {Word : Type 0} (wordOf : List ℕ → Word) where
+  -- a field that is a word's spelling is that word
+  pub known : {f w : List ℕ} {v : Word} → f ≡ w → wordOf w ≡ v → (v ≡ wordOf f) × (length w ≡ length f)
+  known e k = (sym (ap wordOf e ∙ k), sym (ap length e))
 
-pub is-erase : (s : List ℕ) → sameBytes s erase ≡ true → Erase ≡ wordOf s
-unfolding wordOf sameBytes
-is-erase s e = sym (ap wordOf (same-equal s erase e))
-
-pub is-head : (s : List ℕ) → sameBytes s head ≡ true → Head ≡ wordOf s
-unfolding wordOf sameBytes
-is-head s e = sym (ap wordOf (same-equal s head e))
+  -- what is made of the word and of what stands behind it
+  pub line-by : {Line : Type 0} (made : Word → FieldsRead → Line) (s : List ℕ) {v : Word} {e : ℕ} → (v ≡ wordOf (field s)) × (e ≡ length (field s)) → {n : FieldsRead} → n ≡ behind s e
+      → made v n ≡ made (wordOf (field s)) (fieldsBy (numbersOf (later 9 (first 10 s))) (length (first 10 s)))
+  line-by made s {v} (p, q) r = ap (made v) (r ∙ behind-first s q) ∙ ap (λ x. made x (fieldsBy (numbersOf (later 9 (first 10 s))) (length (first 10 s)))) p

@@ -10,7 +10,7 @@ use borrow.Author.Tests.{lt-ltb, le-ltb}
 use Rattle.text.specs.Split.{pick}
 use Rattle.product.specs.Table.{absent}
 use Rattle.product.proofs.Lists.{T-true, over-suc}
-use Rattle.line.specs.Line.{safe}
+use Rattle.listingline.specs.Line.{safe}
 use Rattle.table.specs.declared.Size.{Size}
 use Rattle.model.specs.declared.Model.{Model}
 use Rattle.model.specs.Valid.{valid}

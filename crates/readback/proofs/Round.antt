@@ -19,7 +19,7 @@ use Rattle.numbers.proofs.Decimals.{decimal-one, decimal-more}
 use Rattle.product.specs.Lists.{over}
 use Rattle.product.specs.Table.{absent}
 use Rattle.table.specs.declared.Size.{Size}
-use Rattle.line.specs.Line.{wordOf, safe, head, erase}
+use Rattle.listingline.specs.Line.{wordOf, safe, head, erase}
 use Rattle.model.specs.declared.Model.{Model}
 use Rattle.model.specs.Valid.{valid}
 use Rattle.model.proofs.Valid.{Sizes, valid-sizes}
@@ -39,7 +39,7 @@ use Rattle.printing.specs.Listing.{lineBytes, presentIn, cellBytes, ifPresent, 
 use Rattle.printing.specs.Writing.{bytesOf}
 use Rattle.printing.proofs.Bytes.{field, field-short, cells-within}
 use Rattle.printing.proofs.Whole.{present-few, header-short}
-use Rattle.readback.proofs.Back.{Leads, leads-then, leads-line}
+use Rattle.readback.proofs.Back.{numbers, Leads, leads-then, leads-line}
 use Rattle.readback.proofs.Again.{after, many, leads-cells}
 
 -- one digit, and two at the most
@@ -190,9 +190,9 @@ module _ (m : Model) (v : valid m ≡ true) (rounds : ℕ) (r : rounds ≤ large
   unfolding headerBytes wordOf sameBytes without stepOf
   leads-header =
       let c = cells-fit m v in
-      leads-line (sizeOf m) startState begun-state safe rounds (H ∷ K ∷ []) refl refl tt tt (omega arith)
+      leads-line (sizeOf m) startState begun-state safe rounds (H ∷ K ∷ []) refl tt tt (omega arith)
       (omega arith, (omega (arith, c .heads, present-few hs (headsOf m)), (omega (arith, c .triples, present-few ts (triplesOf m)), tt)))
-      (sym (safe-taken startState rounds H K (start-none .0) r))
+      (sym (safe-taken startState (numbers (rounds ∷ H ∷ K ∷ [])) refl (start-none .0) r))
 
   leads-all : Leads (sizeOf m) startState (bytesOf m rounds hs ts) whole-state
   unfolding listingBytes

@@ -3,7 +3,7 @@ use mathlib.Core.Path.{_≡_, refl}
 use Rattle.product.specs.Lists.{each}
 use Rattle.text.specs.Split.{first, later, sameBytes}
 use Rattle.numbers.specs.Number.{spelled, numberOf, numbersFrom}
-use Rattle.line.specs.Line.{wordOf, lineOf}
+use Rattle.modelline.specs.Line.{wordOf, lineOf}
 use Rattle.reader.specs.Reading.{empty}
 use Rattle.draft.specs.Lines.{takeLine}
 use Rattle.reader.specs.Text.{readFrom, readModel}

@@ -7,7 +7,7 @@ use lib.ListN.{getD}
 use Rattle.product.specs.Lists.{upTo, over}
 use Rattle.product.specs.Product as product
 use Rattle.product.specs.Product.{Product, loaded}
-use Rattle.line.specs.Line.{exit, direct, call}
+use Rattle.modelline.specs.Line.{exit, direct, call}
 use Rattle.model.specs.declared.Model.{Model}
 use Rattle.model.specs.Model.{productOf}
 use Rattle.print.specs.Bytes.{lineBytes, namedBytes}
