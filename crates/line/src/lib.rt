@@ -5,8 +5,8 @@ ghost use lib.ListN.{length};
 ghost use Rattle.numbers.specs.Field.{field};
 ghost use Rattle.line.specs.Line.{spells, behind};
 use numbers::FieldsRead;
-use numbers::Numbers;
 use numbers::MOST;
+use numbers::Numbers;
 
 // Whether the field that s begins with is `word`. The byte behind it is looked at first: it turns most other words away.
 pub fn spells(s: &[u8], word: &[u8]) -> bool

@@ -25,10 +25,10 @@ use Rattle.model.specs.Valid.{valid}
 use Rattle.model.proofs.Valid.{Sizes, valid-sizes}
 use Rattle.rows.specs.State.{State}
 use Rattle.listing.specs.declared.ListingRead.the-variants.{Accepted}
-use Rattle.fitting.specs.Fits.{headsOf, triplesOf, Fits}
+use Rattle.fitting.specs.Fits.{sizeOf, headsOf, triplesOf, Fits}
 use Rattle.ranking.specs.Rank.{largest}
 use Rattle.rows.specs.Lines.{startState, withHeader, ends, stepOf, agreement, finished, readLines, longest}
-use Rattle.listing.specs.Reading.{sizeOf, linesOf, filled, Reads}
+use Rattle.listing.specs.Reading.{linesOf, filled, Reads}
 use Rattle.fitting.proofs.Tested.{cells-fit}
 use Rattle.rows.proofs.Steps.{safe-taken}
 use Rattle.rows.proofs.Lines.{from-end, short-text}

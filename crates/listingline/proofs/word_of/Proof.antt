@@ -46,12 +46,13 @@ unfolding without
 returns-4 c =
     let safe1 = c .before in
     let head1 = safe1 .before .before .before in
-    let erase1 = head1 .before .before .before in
-    (unknown _
-    (field-not _ erase tt tt (erase1 .before .spells .ensures) (erase1 .if1 .left))
-    (field-not _ head tt tt (head1 .before .spells2 .ensures) (head1 .if2 .left))
-    (field-not _ safe tt tt (safe1 .before .spells3 .ensures) (safe1 .if3 .left)),
-    c .field-end .ensures)
+    let erase1 = head1 .before .before .before in (
+      unknown _
+          (field-not _ erase tt tt (erase1 .before .spells .ensures) (erase1 .if1 .left))
+          (field-not _ head tt tt (head1 .before .spells2 .ensures) (head1 .if2 .left))
+          (field-not _ safe tt tt (safe1 .before .spells3 .ensures) (safe1 .if3 .left)),
+      c .field-end .ensures,
+    )
 
 pub word-of-spec : {M : Type 1} → statement M
 word-of-spec =

@@ -101,17 +101,18 @@ returns-9 c =
     let event1 = exit1 .before .before .before in
     let final1 = event1 .before .before .before in
     let start1 = final1 .before .before .before in
-    let size1 = start1 .before .before .before in
-    (unknown _
-    (field-not _ size tt tt (size1 .before .spells .ensures) (size1 .if1 .left))
-    (field-not _ start tt tt (start1 .before .spells2 .ensures) (start1 .if2 .left))
-    (field-not _ final tt tt (final1 .before .spells3 .ensures) (final1 .if3 .left))
-    (field-not _ event tt tt (event1 .before .spells4 .ensures) (event1 .if4 .left))
-    (field-not _ exit tt tt (exit1 .before .spells5 .ensures) (exit1 .if5 .left))
-    (field-not _ direct tt tt (direct1 .before .spells6 .ensures) (direct1 .if6 .left))
-    (field-not _ call tt tt (call1 .before .spells7 .ensures) (call1 .if7 .left))
-    (field-not _ move tt tt (move1 .before .spells8 .ensures) (move1 .if8 .left)),
-    c .field-end .ensures)
+    let size1 = start1 .before .before .before in (
+      unknown _
+          (field-not _ size tt tt (size1 .before .spells .ensures) (size1 .if1 .left))
+          (field-not _ start tt tt (start1 .before .spells2 .ensures) (start1 .if2 .left))
+          (field-not _ final tt tt (final1 .before .spells3 .ensures) (final1 .if3 .left))
+          (field-not _ event tt tt (event1 .before .spells4 .ensures) (event1 .if4 .left))
+          (field-not _ exit tt tt (exit1 .before .spells5 .ensures) (exit1 .if5 .left))
+          (field-not _ direct tt tt (direct1 .before .spells6 .ensures) (direct1 .if6 .left))
+          (field-not _ call tt tt (call1 .before .spells7 .ensures) (call1 .if7 .left))
+          (field-not _ move tt tt (move1 .before .spells8 .ensures) (move1 .if8 .left)),
+      c .field-end .ensures,
+    )
 
 pub word-of-spec : {M : Type 1} → statement M
 word-of-spec =
