@@ -4,7 +4,7 @@ use mathlib.Core.List.{List}
 use mathlib.Core.Logic.{_↔_}
 use mathlib.Core.Option.{some}
 use mathlib.Core.Path.{_≡_, refl, sym, ap, _∙_, subst, subst⁻¹}
-use Prim.Native.Nat.{ℕ, zero, suc, _+_, _*_, _^_, _<_, min}
+use Prim.Native.Nat.{ℕ, zero, suc, _+_, _*_, _%_, _^_, _<_, min}
 use native.Mathlib.Decide.{decLt}
 use native.Mathlib.Nat.{zero-add}
 use native.Mathlib.Omega.{arith}
@@ -24,7 +24,7 @@ use Rattle.model.specs.Valid.{valid}
 use Rattle.model.proofs.Bounds.{step-in}
 use Rattle.model.proofs.Steps.{next-is, fits-next}
 use Rattle.model.proofs.Valid.{valid-move, valid-sizes, product-in}
-use Rattle.steps.specs.Steps.{classOf, stepBy, stepsBy, stepsOf, classSteps, statesAfter}
+use Rattle.steps.specs.Steps.{classOf, symbolOf, stepBy, stepsBy, stepsOf, classSteps, statesAfter}
 use Rattle.steps.specs.Steps as specs
 use Rattle.steps.proofs.Words.{matrix-at, zero-at, gathered-at, gathered-past, length-gathered}
 
@@ -37,6 +37,14 @@ symbol-by (suc (suc k)) g g1 g2 = rw (eqb·suc-zero (suc k), eqb·suc-suc (suc k
 pub class-is : (rows : List ℕ) (r : ℕ) → r < 256 → symbol (ruleAt rows r) ≡ classOf rows r
 unfolding classOf
 class-is rows r l = symbol-by (inRow 4 rows r 0) (inRow 4 rows r 1) (inRow 4 rows r 2) (inRow 4 rows r 3) ∙ ap (λ b. cond b (inRow 4 rows r 1) 0) (sym (lt-ltb r 256 l))
+
+pub symbol-low : (c : ℕ) → symbolOf c < 32
+unfolding symbolOf
+symbol-low c = omega arith
+
+pub symbol-same : (c : ℕ) → c < 32 → symbolOf c ≡ c
+unfolding symbolOf
+symbol-same c l = omega arith
 
 module _ (rows : List ℕ) (shows : List Bool) (moves symbols : ℕ) where
   pub length-steps : length (classSteps rows shows moves symbols) ≡ 256

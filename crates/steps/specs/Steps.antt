@@ -15,6 +15,10 @@ use Rattle.model.specs.Model.{inRow, moveAt, fitsAt}
 unfoldable pub classOf : (rulerows : List ℕ) → (r : ℕ) → ℕ
 classOf rulerows r = cond (ltb r 256) (inRow 4 rulerows r 1) 0
 
+-- the symbol of class c, below 32: with one location a class is its symbol
+unfoldable pub symbolOf : ℕ → ℕ
+symbolOf c = c % 32
+
 -- a matrix by its entries
 abbrev pub matrix : (ℕ → ℕ → Bool) → ℕ
 matrix a = word 64 (λ i. a (i / 8) (i % 8))

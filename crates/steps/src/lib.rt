@@ -8,7 +8,7 @@ ghost use Rattle.bits.specs.Bit.{bit};
 ghost use Rattle.bits.specs.Matrix.{some};
 ghost use Rattle.model.specs.Model.{showsAt};
 ghost use Rattle.steps.specs.Events.{eventSteps, withMove, marks, marked};
-ghost use Rattle.steps.specs.Steps.{classOf, classSteps, statesAfter};
+ghost use Rattle.steps.specs.Steps.{classOf, symbolOf, classSteps, statesAfter};
 
 fn wide(x: u8) -> u64
     ensures { λ r. ⌜ r ≡ x ⌝ }
@@ -146,6 +146,14 @@ pub fn class_of(rulerows: &[u8; 1024], r: usize) -> usize
         return 0;
     }
     index(rulerows[r * 4 + 1])
+}
+
+// The symbol of a class, whatever the number.
+pub fn symbol_of(class: usize) -> usize
+    ensures { λ g. ⌜ g ≡ symbolOf class ⌝ }
+    ensures { λ g. ⌜ g < 32 ⌝ }
+{
+    class % 32
 }
 
 // The states to which rule r can step from those in `from`.
