@@ -8,6 +8,7 @@ use lib.ListN.{length, getD}
 use Rattle.table.specs.declared.Size.{Size}
 use Rattle.bits.specs.Bit.{bit}
 use Rattle.bits.specs.Matrix.{mat, mats, multiplied}
+use Rattle.steps.specs.Steps.{symbolOf}
 use Rattle.decide.specs.Sets.{among}
 use Rattle.decide.specs.Stamp.{Sort, of-heads, of-triples, viewOf, cellsOf, Became, Entries, alone, named, ranked}
 
@@ -34,18 +35,15 @@ pub record Fits (s : Sort) (z : Size) (g m : ℕ) : Type 0 where
   pub small : g < 32
   pub inside : (q x : ℕ) → T (mat m q x) → Within s z g q x
 
--- class c: its symbol, what it gives, once through its steps, and where that goes; and the classes of a set
-abbrev pub symbolAt : List ℕ → ℕ → ℕ
-symbolAt sy c = getD sy c 0 % 32
-
+-- class c: what it gives, once through its steps, and where that goes; and the classes of a set
 unfoldable pub givenBy : (tg by : List ℕ) → (c : ℕ) → ℕ
 givenBy tg by c = multiplied (getD tg c 0) (getD by c 0)
 
-unfoldable pub fromClass : (sy tg by : List ℕ) → (c : ℕ) → Entries
-fromClass sy tg by c = alone (symbolAt sy c) (givenBy tg by c)
+unfoldable pub fromClass : (tg by : List ℕ) → (c : ℕ) → Entries
+fromClass tg by c = alone (symbolOf c) (givenBy tg by c)
 
-unfoldable pub fromClasses : (sy tg by t : List ℕ) → Entries
-fromClasses sy tg by t g q x = among t (λ c. fromClass sy tg by c g q x)
+unfoldable pub fromClasses : (tg by t : List ℕ) → Entries
+fromClasses tg by t g q x = among t (λ c. fromClass tg by c g q x)
 
-abbrev pub AllFit : Size → (sy tg by : List ℕ) → Type 0
-AllFit z sy tg by = (c : ℕ) → Fits of-triples z (symbolAt sy c) (givenBy tg by c)
+abbrev pub AllFit : Size → (tg by : List ℕ) → Type 0
+AllFit z tg by = (c : ℕ) → Fits of-triples z (symbolOf c) (givenBy tg by c)

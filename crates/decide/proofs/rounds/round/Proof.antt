@@ -10,33 +10,34 @@ use Rattle.decide.proofs.heads.show_all.Reads as show-all-reads
 use Rattle.decide.proofs.triples.gather.Reads as gather-reads
 use Rattle.decide.proofs.triples.settle_all.Reads as settle-all-reads
 
--- src/rounds.rt:44:9
+-- src/rounds.rt:52:9
 gather-requires : tie.Need-gather-requires
-gather-requires c κs = (c .before .before .before .before .pre .0 .3 .sets .triples-long, c .before .before .before .before .pre .0 .3 .stored .long)
+gather-requires c κs = let b = c .before .before .before .before .before .before .pre .0 .begins in (b .sets .triples-long, b .stored .long)
 
--- src/rounds.rt:45:9
+-- src/rounds.rt:53:9
 show-all-requires : tie.Need-show-all-requires
-show-all-requires c κs = (c .before .before .before .before .before .before .before .before .pre .0 .3 .sets .heads-long, c .before .before .before .before .before .before .before .before .pre .1)
+show-all-requires c κs = let s = c .before .before .before .before .before .before .before .before .before .before in (s .pre .0 .begins .sets .heads-long, s .pre .1)
 
--- src/rounds.rt:46:9
+-- src/rounds.rt:54:9
 settle-all-requires : tie.Need-settle-all-requires
-settle-all-requires c κs = (c .before .before .before .before .before .before .before .gather .ensures .few, (c .before .before .before .before .before .before .before .before .before .before .before .before .pre .0 .3 .standing .triples-room, ready-fit _ _ _ _ _ _ _ _ _ _ _ _ (c .before .before .before .before .before .before .before .gather .ensures) (c .before .before .before .before .before .before .before .before .before .before .before .before .pre .0)))
+settle-all-requires c κs = let s = c .before .before .before .before .before .before .before .before .before .before .before .before .before .before in let gathered = c .before .before .before .before .before .before .before .gather .ensures in (gathered .few, (s .pre .0 .begins .standing .triples-room, ready-fit gathered (s .pre .0)))
 
--- src/rounds.rt:47:9
+-- src/rounds.rt:55:9
 settle-heads-requires : tie.Need-settle-heads-requires
-settle-heads-requires c κs = (c .before .before .before .before .before .before .before .before .before .show-all .ensures .covers, (c .before .before .before .before .before .before .before .before .before .before .before .before .before .before .before .before .before .before .pre .0 .3 .standing .heads-room, ready-rows _ _ _ _ _ _ _ _ _ _ _ _ (c .before .before .before .before .before .before .before .before .before .show-all .ensures) (c .before .before .before .before .before .before .before .before .before .before .before .before .before .before .before .before .before .before .pre .0)))
+settle-heads-requires c κs = let s = c .before .before .before .before .before .before .before .before .before .before .before .before .before .before .before .before .before .before .before .before in let shown = c .before .before .before .before .before .before .before .before .before .show-all .ensures in (shown .covers, (s .pre .0 .begins .standing .heads-room, ready-rows shown (s .pre .0)))
 
--- src/rounds.rt:25:1
+-- src/rounds.rt:33:1
 same-length : tie.Need-same-length
 same-length c = c .before .before .settle-heads .ensures .took .table .as-long
 
--- src/rounds.rt:25:1
+-- src/rounds.rt:33:1
 same-length-2 : tie.Need-same-length-2
-same-length-2 c = c .before .before .before .before .before .before .before .before .settle-all .ensures .table .as-long
+same-length-2 c = let settled = c .before .before .before .before .before .before .before .before in settled .settle-all .ensures .table .as-long
 
--- src/rounds.rt:25:1
+-- src/rounds.rt:33:1
 returns : tie.Need-returns
-returns c = round-done _ _ _ _ _ _ _ _ _ _ _ _ (c .before .before .before .before .before .before .before .before .before .before .before .before .before .before .before .before .gather .ensures) (c .before .before .before .before .before .before .before .before .before .before .before .before .show-all .ensures) (c .before .before .before .before .before .before .before .before .settle-all .ensures) (c .before .before .settle-heads .ensures)
+returns c = let settled = c .before .before .before .before .before .before .before .before in let shown = settled .before .before .before .before in let gathered = shown .before .before .before .before in
+    round-done _ _ _ _ _ _ _ _ _ _ (gathered .gather .ensures) (shown .show-all .ensures) (settled .settle-all .ensures) (c .before .before .settle-heads .ensures)
 
 pub round-spec : {M : Type 1} → statement M
 round-spec =

@@ -7,48 +7,44 @@ use Rattle.decide.proofs.triples.settle.Tie as tie
 use Rattle.decide.proofs.triples.settle.Reads as reads
 use Rattle.decide.proofs.triples.settle.Lts as lts
 use Rattle.bits.proofs.product.Reads as product-reads
-use Rattle.decide.proofs.triples.low.Reads as low-reads
 use Rattle.decide.proofs.triples.take.Reads as take-reads
+use Rattle.steps.proofs.symbol_of.Reads as symbol-of-reads
 
--- src/triples.rt:131:27
+-- src/triples.rt:113:27
 mul-product : tie.Need-mul-product
 mul-product c = search needs
 
--- src/triples.rt:131:27
+-- src/triples.rt:113:27
 element-copy-out-product : tie.Need-element-copy-out-product
 element-copy-out-product c = search needs
 
--- src/triples.rt:131:34
+-- src/triples.rt:113:34
 mul-product-2 : tie.Need-mul-product-2
 mul-product-2 c = search needs
 
--- src/triples.rt:131:34
+-- src/triples.rt:113:34
 element-copy-out-product-2 : tie.Need-element-copy-out-product-2
 element-copy-out-product-2 c = search needs
 
--- src/triples.rt:131:9
+-- src/triples.rt:113:9
 product-requires : tie.Need-product-requires
 product-requires c κs = search needs
 
--- src/triples.rt:132:20
-element-copy-out-low : tie.Need-element-copy-out-low
-element-copy-out-low c = search needs
+-- src/triples.rt:114:16
+symbol-of-requires : tie.Need-symbol-of-requires
+symbol-of-requires c κs = search needs
 
--- src/triples.rt:132:16
-low-requires : tie.Need-low-requires
-low-requires c κs = search needs
-
--- src/triples.rt:132:5
+-- src/triples.rt:114:5
 take-requires : tie.Need-take-requires
-take-requires c κs = (c .before .before .before .before .before .before .before .before .pre .1 .0, settle-in _ 0 _ (c .before .before .before .before .before .before .before .before .args .sy .now) _ _ [] [] (c .before .before .low .ensures .0) (c .before .before .before .before .product .ensures) (c .before .before .before .before .before .before .before .before .pre .1 .1))
+take-requires c κs = let s = c .before .before .before .before .before .before .before in (s .pre .1 .0, settle-in _ 0 _ _ _ [] [] (c .before .before .symbol-of .ensures .0) (c .before .before .before .product .ensures) (s .pre .1 .1))
 
--- src/triples.rt:116:1
+-- src/triples.rt:99:1
 same-length : tie.Need-same-length
 same-length c = search needs
 
--- src/triples.rt:116:1
+-- src/triples.rt:99:1
 returns : tie.Need-returns
-returns c = settle-is _ _ _ _ _ _ _ _ (c .before .before .before .before .before .low .ensures .0) (c .before .before .before .before .before .before .before .product .ensures) (c .before .before .take .ensures)
+returns c = let made = c .before .before .before .before .before in settle-is _ _ _ _ _ _ _ (made .symbol-of .ensures .0) (made .before .product .ensures) (c .before .before .take .ensures)
 
 pub settle-spec : {M : Type 1} → statement M
 settle-spec =
@@ -59,8 +55,7 @@ settle-spec =
     mul-product-2
     element-copy-out-product-2
     product-requires
-    element-copy-out-low
-    low-requires
+    symbol-of-requires
     take-requires
     same-length
     returns)
