@@ -27,14 +27,16 @@ use Rattle.decide.specs.Decided.{meaning, within}
 use Rattle.decide.specs.Stamp.{of-heads, of-triples}
 use Rattle.decide.specs.declared.Goal.{Goal}
 use Rattle.decide.specs.declared.Next.{Next}
-use Rattle.decide.specs.declared.rounds.Changed.{Changed}
 use Rattle.decide.specs.declared.rounds.Outcome.{Outcome}
 use Rattle.decide.specs.declared.rounds.Outcome.the-variants.{Goes, Ends}
-use Rattle.decide.specs.Standing as standing
-use Rattle.decide.specs.Standing.{Begins, Kept, Ready, RoundDone}
+use Rattle.decide.specs.Gather.{zeros}
+use Rattle.decide.specs.Take.{TriplesReady, TriplesDone}
+use Rattle.decide.specs.Show.{HeadsReady, HeadsDone}
+use Rattle.decide.specs.Standing.{Begins, Kept}
 use Rattle.decide.specs.Turn.{Chosen}
-use Rattle.decide.specs.Driven.{violations, Tested, Judged, Goals, Starts, Driving, Answers, Driven}
+use Rattle.decide.specs.Driven.{violations, Tested, Judged, Goals, startRows, Starts, Driving, Answers, Driven}
 use Rattle.decide.proofs.Found.{found, not-found}
+use Rattle.decide.proofs.Done.{heads-ready, triples-ready, round-ends}
 use Rattle.decide.proofs.Turning.{triples-low, heads-low, after-turn}
 
 -- After round n: what stands, with the rules for the next; the rounds before it went on; `more` tells whether it added a fact, and of the symbols
@@ -51,34 +53,34 @@ pub record At (p : Product) (z : Size) (budget : ℕ) (rs tg hs ts : List ℕ) (
   pub in-budget : n ≤ budget
 
 -- for every product that the arrays hold
-pub record Going (z : Size) (goal : Goal) (t₀ : Next) (rs tg us by₀ e₀ hd₀ hs ts : List ℕ) (budget n : ℕ) (t : Next) (by e hd hs′ ts′ : List ℕ) : Type 0 where
+pub record Going (z : Size) (goal : Goal) (t₀ : Next) (rs tg us hs ts : List ℕ) (budget n : ℕ) (t : Next) (by e hd hs′ ts′ : List ℕ) : Type 0 where
   pub few : n ≤ 2304
   pub heads-long : length hs′ ≡ length hs
   pub triples-long : length ts′ ≡ length ts
-  pub at : (p : Product) → Starts p z goal t₀ rs tg us by₀ e₀ hd₀ hs ts → At p z budget rs tg hs ts n t by e hd hs′ ts′
+  pub at : (p : Product) → Starts p z goal t₀ rs tg us hs ts → At p z budget rs tg hs ts n t by e hd hs′ ts′
 
 not-of : (b : Bool) → (T b → ⊥) → T (not b)
 not-of false h = tt
 not-of true h = h tt
 
-module _ {z : Size} {goal : Goal} {t₀ : Next} {rs tg us by₀ e₀ hd₀ hs ts : List ℕ} where
+module _ {z : Size} {goal : Goal} {t₀ : Next} {rs tg us hs ts : List ℕ} where
   -- the numbers are in range
-  pub small-state : Driving z goal t₀ rs tg us by₀ e₀ hd₀ hs ts → goal .state < 8
+  pub small-state : Driving z goal t₀ rs tg us hs ts → goal .state < 8
   small-state d =
       let p = d .product in
       let a = d .starts .begins .arrays in
       omega (arith, d .starts .goals .state-is, a .frame .few-states, upTo-lt (z .states) (p .start-state) (subst (λ l. p .start-state ∈ l) (a .frame .states-are) (a .in-range .state-in)))
 
-  pub small-symbol : Driving z goal t₀ rs tg us by₀ e₀ hd₀ hs ts → goal .symbol < 32
+  pub small-symbol : Driving z goal t₀ rs tg us hs ts → goal .symbol < 32
   small-symbol d =
       let b = d .starts .begins in
       omega (arith, d .starts .goals .symbol-is, b .arrays .in-range .symbol-in, b .arrays .symbols-are, b .standing .triples-room .few)
 
-  pub going-first : (budget : ℕ) → Driving z goal t₀ rs tg us by₀ e₀ hd₀ hs ts → Going z goal t₀ rs tg us by₀ e₀ hd₀ hs ts budget 0 t₀ by₀ e₀ hd₀ hs ts
+  pub going-first : (budget : ℕ) → Driving z goal t₀ rs tg us hs ts → {hd : List ℕ} → hd ≡ startRows goal → Going z goal t₀ rs tg us hs ts budget 0 t₀ (zeros 256) (zeros 32) hd hs ts
   unfolding adds grown
-  going-first budget d = record { few = omega arith; heads-long = refl; triples-long = refl; at = first }
+  going-first budget d {hd} hd-is = record { few = omega arith; heads-long = refl; triples-long = refl; at = λ p s. subst⁻¹ (λ hd. At p z budget rs tg hs ts 0 t₀ (zeros 256) (zeros 32) hd hs ts) hd-is (first p s) }
     where
-      first : (p : Product) → Starts p z goal t₀ rs tg us by₀ e₀ hd₀ hs ts → At p z budget rs tg hs ts 0 t₀ by₀ e₀ hd₀ hs ts
+      first : (p : Product) → Starts p z goal t₀ rs tg us hs ts → At p z budget rs tg hs ts 0 t₀ (zeros 256) (zeros 32) (startRows goal) hs ts
       first p s = record {
         begins = s .begins;
         triples-kept = record { as-long = refl; past = refl };
@@ -93,12 +95,12 @@ module _ {z : Size} {goal : Goal} {t₀ : Next} {rs tg us by₀ e₀ hd₀ hs ts
         in-budget = omega arith;
       }
 
-  module _ {budget n : ℕ} {t : Next} {by e hd hs′ ts′ : List ℕ} (G : Going z goal t₀ rs tg us by₀ e₀ hd₀ hs ts budget n t by e hd hs′ ts′) where
-    pub changed-low : Driving z goal t₀ rs tg us by₀ e₀ hd₀ hs ts → (s : ℕ) → T (bit (t .changed) s) → s < 32
+  module _ {budget n : ℕ} {t : Next} {by e hd hs′ ts′ : List ℕ} (G : Going z goal t₀ rs tg us hs ts budget n t by e hd hs′ ts′) where
+    pub changed-low : Driving z goal t₀ rs tg us hs ts → (s : ℕ) → T (bit (t .changed) s) → s < 32
     changed-low d = G .at (d .product) (d .starts) .low
 
     -- the rounds are few, since each has added a fact
-    few-rounds : (p : Product) → Starts p z goal t₀ rs tg us by₀ e₀ hd₀ hs ts → (n : ℕ) → ((k : ℕ) → k < n → GoesOn p k) → n ≤ 2304
+    few-rounds : (p : Product) → Starts p z goal t₀ rs tg us hs ts → (n : ℕ) → ((k : ℕ) → k < n → GoesOn p k) → n ≤ 2304
     few-rounds p s n h =
         let a = s .begins .arrays in
         omega (
@@ -108,11 +110,11 @@ module _ {z : Size} {goal : Goal} {t₀ : Next} {rs tg us by₀ e₀ hd₀ hs ts
               (omega (arith, ap length (a .frame .states-are), length-upTo (z .states), a .frame .few-states)),
         )
 
-    answered : (d : Decision) → ((p : Product) → Starts p z goal t₀ rs tg us by₀ e₀ hd₀ hs ts → (o : Option Verdict) × (meaning d ≡ within budget o) × (o ≡ answer p budget) × (ran budget o ≡ n))
-        → Driven z goal t₀ rs tg us by₀ e₀ hd₀ hs ts budget d hs′ ts′
+    answered : (d : Decision) → ((p : Product) → Starts p z goal t₀ rs tg us hs ts → (o : Option Verdict) × (meaning d ≡ within budget o) × (o ≡ answer p budget) × (ran budget o ≡ n))
+        → Driven z goal t₀ rs tg us hs ts budget d hs′ ts′
     answered d h = record { answers = at }
       where
-        at : (p : Product) → Starts p z goal t₀ rs tg us by₀ e₀ hd₀ hs ts → Answers p z hs ts budget d hs′ ts′
+        at : (p : Product) → Starts p z goal t₀ rs tg us hs ts → Answers p z hs ts budget d hs′ ts′
         at p s =
             let (o, w, x, y) = h p s in
             let g = G .at p s in
@@ -126,47 +128,47 @@ module _ {z : Size} {goal : Goal} {t₀ : Next} {rs tg us by₀ e₀ hd₀ hs ts
             }
 
     module _ (r : ℕ) (r-is : (x : ℕ) → bit r x ≡ violations (goal .finals) (t .changed) hd e (goal .state) (goal .symbol) x) where
-      violates : (r ≡ 0 → ⊥) → Driven z goal t₀ rs tg us by₀ e₀ hd₀ hs ts budget (Violation n) hs′ ts′
+      violates : (r ≡ 0 → ⊥) → Driven z goal t₀ rs tg us hs ts budget (Violation n) hs′ ts′
       violates k =
           answered (Violation n) (λ p s.
           let b = G .at p s in
           (some (violation n), refl, sym (answer-of p budget (violation n) (b .goes, found (b .begins) (s .goals) (t .changed) (b .low) r r-is k) (b .in-budget)), refl))
 
       module _ (clean : r ≡ 0) where
-        unviolated : (p : Product) → Starts p z goal t₀ rs tg us by₀ e₀ hd₀ hs ts → T (not (violated p n))
+        unviolated : (p : Product) → Starts p z goal t₀ rs tg us hs ts → T (not (violated p n))
         unviolated p s = let b = G .at p s in not-found (b .begins) (s .goals) (t .changed) (b .low) r r-is (b .others) clean
 
-        is-safe : t .more ≡ 0 → Driven z goal t₀ rs tg us by₀ e₀ hd₀ hs ts budget (Safe n) hs′ ts′
+        is-safe : t .more ≡ 0 → Driven z goal t₀ rs tg us hs ts budget (Safe n) hs′ ts′
         is-safe x =
             answered (Safe n) (λ p s.
             let b = G .at p s in
             (some (safe n), refl, sym (answer-of p budget (safe n) (b .goes, (unviolated p s, b .idle x)) (b .in-budget)), refl))
 
         module _ (x : t .more ≡ 0 → ⊥) where
-          goes-on : (p : Product) → Starts p z goal t₀ rs tg us by₀ e₀ hd₀ hs ts → (k : ℕ) → k < suc n → GoesOn p k
+          goes-on : (p : Product) → Starts p z goal t₀ rs tg us hs ts → (k : ℕ) → k < suc n → GoesOn p k
           goes-on p s k l = at (ℕ-discrete k n)
             where
               at : Dec (k ≡ n) → GoesOn p k
               at (yes i) = subst⁻¹ (GoesOn p) i (unviolated p s, G .at p s .busy x)
               at (no i) = G .at p s .goes k (omega arith)
 
-          is-spent : budget ≤ n → Driven z goal t₀ rs tg us by₀ e₀ hd₀ hs ts budget (Spent budget) hs′ ts′
+          is-spent : budget ≤ n → Driven z goal t₀ rs tg us hs ts budget (Spent budget) hs′ ts′
           is-spent l = answered (Spent budget) (λ p s. (none, refl, sym (go p s (answer p budget) (answer-stands p budget)), omega (arith, G .at p s .in-budget)))
             where
-              go : (p : Product) → Starts p z goal t₀ rs tg us by₀ e₀ hd₀ hs ts → (o : Option Verdict) → Stands p (suc budget) o → o ≡ none
+              go : (p : Product) → Starts p z goal t₀ rs tg us hs ts → (o : Option Verdict) → Stands p (suc budget) o → o ≡ none
               go p s _ (decided v i k) = absurd (stopped p v (i .1) (goes-on p s (rounds v) (omega (arith, G .at p s .in-budget))))
               go p s _ (undecided _) = refl
 
           -- no head of the round before is in a final state
-          not-final : (p : Product) → Starts p z goal t₀ rs tg us by₀ e₀ hd₀ hs ts → (q′ s′ : ℕ) → T (held p n (head q′ s′)) → T (not (p .final q′))
+          not-final : (p : Product) → Starts p z goal t₀ rs tg us hs ts → (q′ s′ : ℕ) → T (held p n (head q′ s′)) → T (not (p .final q′))
           not-final p s q′ s′ h =
               not-of (p .final q′) (λ u. T-not (violated p n) (unviolated p s) (violated-by p (G .at p s .begins .arrays .in-range) n (head q′ s′) u h))
 
     -- what the tests say: an answer
-    pub ends : {o : Outcome} (d : Decision) → Judged goal n budget t hd e o → o ≡ Ends d → Driven z goal t₀ rs tg us by₀ e₀ hd₀ hs ts budget d hs′ ts′
+    pub ends : {o : Outcome} (d : Decision) → Judged goal n budget t hd e o → o ≡ Ends d → Driven z goal t₀ rs tg us hs ts budget d hs′ ts′
     ends d j i = go d (subst (Tested n budget (t .more) (j .seen)) i (j .tested))
       where
-        go : (d : Decision) → Tested n budget (t .more) (j .seen) (Ends d) → Driven z goal t₀ rs tg us by₀ e₀ hd₀ hs ts budget d hs′ ts′
+        go : (d : Decision) → Tested n budget (t .more) (j .seen) (Ends d) → Driven z goal t₀ rs tg us hs ts budget d hs′ ts′
         go (Violation k) (i, f) = rw i (violates (j .seen) (j .seen-is) f)
         go (Safe k) (i, c, x) = rw i (is-safe (j .seen) (j .seen-is) c x)
         go (Spent b) (i, c, x, l) = rw i (is-spent (j .seen) (j .seen-is) c x l)
@@ -174,42 +176,51 @@ module _ {z : Size} {goal : Goal} {t₀ : Next} {rs tg us by₀ e₀ hd₀ hs ts
         go Short x = absurd x
 
     -- or to go on: there is room for a round, which can be run
-    module _ {o : Outcome} (j : Judged goal n budget t hd e o) (i : o ≡ Goes) (d : Driving z goal t₀ rs tg us by₀ e₀ hd₀ hs ts) where
+    module _ {o : Outcome} (j : Judged goal n budget t hd e o) (i : o ≡ Goes) (d : Driving z goal t₀ rs tg us hs ts) where
       on : Tested n budget (t .more) (j .seen) Goes
       on = subst (Tested n budget (t .more) (j .seen)) i (j .tested)
 
       pub room : n < 2304
       room = let (c, x, _) = on in few-rounds (d .product) (d .starts) (suc n) (goes-on (j .seen) (j .seen-is) c x (d .product) (d .starts))
 
-      pub ready : Ready z (n + 1) t rs tg by e hd hs′ ts′
-      ready = record { product = d .product; before = n; next = add-one n; begins = G .at (d .product) (d .starts) .begins }
+      abbrev stands : Begins (d .product) z n (t .wt) (t .wh) rs tg by e hd hs′ ts′
+      stands = G .at (d .product) (d .starts) .begins
 
-      module _ {c : Changed} {by′ nh′ e′ hd′ hs″ ts″ : List ℕ} (done : RoundDone z (n + 1) t rs tg by e hd hs′ ts′ c by′ nh′ e′ hd′ hs″ ts″) where
-        ended : (p : Product) → Starts p z goal t₀ rs tg us by₀ e₀ hd₀ hs ts → standing.Ends p z n rs tg hs′ ts′ (c .triples) (c .heads) by′ e′ hd′ hs″ ts″
-        ended p s = done .ends p n (add-one n) (G .at p s .begins)
+      pub can-heads : HeadsReady z (t .wh) rs tg e hd hs′
+      can-heads = heads-ready stands
 
-        pub low-triples : (g : ℕ) → T (bit (c .triples) g) → g < 32
-        low-triples = triples-low (G .at (d .product) (d .starts) .begins) (ended (d .product) (d .starts))
+      pub can-triples : TriplesReady z (t .wt) rs tg by e ts′
+      can-triples = triples-ready stands
 
-        pub low-heads : (g : ℕ) → T (bit (c .heads) g) → g < 32
-        low-heads = heads-low (G .at (d .product) (d .starts) .begins) (ended (d .product) (d .starts))
+      module _ {ce ch : ℕ} {by′ nh′ e′ hd′ hs″ ts″ : List ℕ} (a : HeadsDone z (n + 1) (t .wh) rs tg e hd hs′ ch nh′ hd′ hs″)
+          (b : TriplesDone z (n + 1) (t .wt) rs tg by e ts′ ce by′ e′ ts″) where
+        pub low-triples : (g : ℕ) → T (bit ce g) → g < 32
+        low-triples = triples-low stands (round-ends stands (add-one n) a b)
 
-        pub going-next : {t′ : Next} → Chosen us c t′ → Going z goal t₀ rs tg us by₀ e₀ hd₀ hs ts budget (n + 1) t′ by′ e′ hd′ hs″ ts″
-        going-next {t′} ch = record { few = omega (arith, room); heads-long = done .heads-long ∙ G .heads-long; triples-long = done .triples-long ∙ G .triples-long; at = next }
+        pub low-heads : (g : ℕ) → T (bit ch g) → g < 32
+        low-heads = heads-low stands (round-ends stands (add-one n) a b)
+
+        pub going-next : {t′ : Next} → Chosen us ce ch t′ → Going z goal t₀ rs tg us hs ts budget (n + 1) t′ by′ e′ hd′ hs″ ts″
+        going-next {t′} c = record {
+          few = omega (arith, room);
+          heads-long = a .settles .took .table .as-long ∙ G .heads-long;
+          triples-long = b .took .table .as-long ∙ G .triples-long;
+          at = next;
+        }
           where
-            next : (p : Product) → Starts p z goal t₀ rs tg us by₀ e₀ hd₀ hs ts → At p z budget rs tg hs ts (n + 1) t′ by′ e′ hd′ hs″ ts″
+            next : (p : Product) → Starts p z goal t₀ rs tg us hs ts → At p z budget rs tg hs ts (n + 1) t′ by′ e′ hd′ hs″ ts″
             next p s =
-                let b = G .at p s in
-                let a = after-turn (b .begins) (ended p s) (s .uses) ch in
+                let g = G .at p s in
+                let o = after-turn (g .begins) (round-ends (g .begins) (add-one n) a b) (s .uses) c in
                 let (clean, x, l) = on in
                 rw add-one (record {
-                  begins = a .begins;
-                  triples-kept = record { as-long = a .triples-kept .as-long ∙ b .triples-kept .as-long; past = a .triples-kept .past ∙ b .triples-kept .past };
-                  heads-kept = record { as-long = a .heads-kept .as-long ∙ b .heads-kept .as-long; past = a .heads-kept .past ∙ b .heads-kept .past };
-                  idle = a .idle;
-                  busy = a .busy;
-                  low = a .low;
-                  others = λ q′ s′ c h. not-final (j .seen) (j .seen-is) clean x p s q′ s′ (a .quiet q′ s′ c h);
+                  begins = o .begins;
+                  triples-kept = record { as-long = o .triples-kept .as-long ∙ g .triples-kept .as-long; past = o .triples-kept .past ∙ g .triples-kept .past };
+                  heads-kept = record { as-long = o .heads-kept .as-long ∙ g .heads-kept .as-long; past = o .heads-kept .past ∙ g .heads-kept .past };
+                  idle = o .idle;
+                  busy = o .busy;
+                  low = o .low;
+                  others = λ q′ s′ c h. not-final (j .seen) (j .seen-is) clean x p s q′ s′ (o .quiet q′ s′ c h);
                   goes = goes-on (j .seen) (j .seen-is) clean x p s;
                   in-budget = l;
                 })

@@ -22,14 +22,14 @@ use Rattle.decide.proofs.Gathered.{or-assoc}
 use Rattle.decide.proofs.Taking.{took-none, took-then, took-alike, room-after}
 
 -- one class
-module _ (z : Size) (k c : ℕ) (tg by e ts : List ℕ) {g m : ℕ} (g-is : g ≡ symbolOf c) (m-is : m ≡ multiplied (getD tg c 0) (getD by c 0)) where
-  pub settle-in : Fits of-triples z (symbolOf c) (givenBy tg by c) → Fits of-triples z g m
+module _ (c : ℕ) (tg by : List ℕ) {g m : ℕ} (g-is : g ≡ symbolOf c) (m-is : m ≡ multiplied (getD tg c 0) (getD by c 0)) where
+  pub settle-in : {z : Size} → Fits of-triples z (symbolOf c) (givenBy tg by c) → Fits of-triples z g m
   unfolding givenBy
-  settle-in f = subst⁻¹ (λ m. Fits of-triples z g m) m-is (subst⁻¹ (λ g. Fits of-triples z g (givenBy tg by c)) g-is f)
+  settle-in {z} f = subst⁻¹ (λ m. Fits of-triples z g m) m-is (subst⁻¹ (λ g. Fits of-triples z g (givenBy tg by c)) g-is f)
 
-  pub settle-is : {w : ℕ} {e′ ts′ : List ℕ} → Took of-triples z k (alone g m) e ts w e′ ts′ → Took of-triples z k (fromClass tg by c) e ts w e′ ts′
+  pub settle-is : {z : Size} {k w : ℕ} {e ts e′ ts′ : List ℕ} → Took of-triples z k (alone g m) e ts w e′ ts′ → Took of-triples z k (fromClass tg by c) e ts w e′ ts′
   unfolding fromClass givenBy
-  settle-is {w} {e′} {ts′} = subst (λ n. Took of-triples z k n e ts w e′ ts′) (ap₂ alone g-is m-is)
+  settle-is {z} {k} {w} {e} {ts} {e′} {ts′} = subst (λ n. Took of-triples z k n e ts w e′ ts′) (ap₂ alone g-is m-is)
 
 -- what is left to settle, with what is done, makes what was asked
 pub record Left (z : Size) (k : ℕ) (t tg by e₀ ts₀ left : List ℕ) (w : ℕ) (e ts : List ℕ) : Type 0 where

@@ -25,7 +25,6 @@ use Rattle.table.proofs.Cells.{length-cleared}
 use Rattle.table.proofs.Store.{store-head, past-head, length-head}
 use Rattle.table.proofs.LaidOut.{heads-laid, triples-laid, cleared-view, cleared-past-end}
 use Rattle.model.specs.declared.Model.{Model}
-use Rattle.model.specs.declared.Shape.{Shape}
 use Rattle.model.specs.Model.{rule, productOf}
 use Rattle.model.specs.Valid.{valid}
 use Rattle.model.proofs.Valid.{valid-sizes, product-in}
@@ -50,6 +49,7 @@ use Rattle.decide.specs.Ran.{Able, Started, Ran}
 use Rattle.decide.proofs.Gathered.{mat-none}
 use Rattle.decide.proofs.Emptied.{zeros-at}
 use Rattle.decide.proofs.Choosing.{no-member, off, collected-cases, collected-new}
+use Rattle.decide.proofs.Tested.{shape}
 use Rattle.decide.proofs.Framed.{row-is, model-frame}
 
 -- a set of one
@@ -58,10 +58,6 @@ one-bit g l x = ap (λ n. bit n x) (one-shifted 64 g (omega arith)) ∙ bit-pow 
 
 pub one-low : (g : ℕ) → g < 32 → (x : ℕ) → T (bit ((1 * 2 ^ g) % 2 ^ 64) x) → x < 32
 one-low g l x t = subst (λ n. n < 32) (eqb→eq g x (subst T (one-bit g l x) t)) l
-
--- the model's numbers beside its arrays
-abbrev shapeOf : Model → Shape
-shapeOf m = record { symbols = m .symbols; states = m .states; events = m .events; startstate = m .startstate; startsymbol = m .startsymbol; rules = m .rules; moves = m .moves }
 
 module _ (m : Model) (v : T (valid m)) where
   abbrev z : Size
@@ -74,7 +70,7 @@ module _ (m : Model) (v : T (valid m)) where
   g-in = omega (arith, start-symbol-in m v, valid-sizes m v .symbols)
 
   -- what is looked for
-  module _ {goal : Goal} (of : GoalOf (shapeOf m) (m .finals) goal) where
+  module _ {goal : Goal} (of : GoalOf (shape m) (m .finals) goal) where
     pub state-in : goal .state < 8
     state-in = omega (arith, of .state-is, q-in)
 
@@ -205,7 +201,7 @@ module _ (m : Model) (v : T (valid m)) where
     }
 
   -- THE START, of a goal, of the rules of the first round and of the arrays of round 0
-  module _ {hs ts hs′ ts′ : List ℕ} {goal : Goal} {us tg : List ℕ} {t : Next} (able : Able m hs ts) (of : GoalOf (shapeOf m) (m .finals) goal)
+  module _ {hs ts hs′ ts′ : List ℕ} {goal : Goal} {us tg : List ℕ} {t : Next} (able : Able m hs ts) (of : GoalOf (shape m) (m .finals) goal)
       (st : Started z (goal .state) (goal .symbol) hs ts hs′ ts′) (f : First (m .rulerows) (m .rules) (goal .symbol) us t)
       (tg-is : tg ≡ classSteps (m .moverows) (m .shows) (m .moves) (m .symbols)) where
     st′ : Started z (m .startstate) (m .startsymbol) hs ts hs′ ts′
@@ -214,7 +210,7 @@ module _ (m : Model) (v : T (valid m)) where
     rows-are : set (zeros 32) (m .startsymbol) ((1 * 2 ^ m .startstate) % 2 ^ 64) ≡ startRows goal
     rows-are = ap₂ (λ g q. set (zeros 32) g ((1 * 2 ^ q) % 2 ^ 64)) (sym (of .symbol-is)) (sym (of .state-is))
 
-    starts : Starts (productOf m) z goal t (m .rulerows) tg us (zeros 256) (zeros 32) (startRows goal) hs′ ts′
+    starts : Starts (productOf m) z goal t (m .rulerows) tg us hs′ ts′
     starts = record {
       begins = record {
         arrays = record { in-range = product-in m v; frame = model-frame m v tg-is; symbols-are = refl };
@@ -228,10 +224,10 @@ module _ (m : Model) (v : T (valid m)) where
       changed-is = changed-bit of f;
     }
 
-    pub driving : Driving z goal t (m .rulerows) tg us (zeros 256) (zeros 32) (startRows goal) hs′ ts′
+    pub driving : Driving z goal t (m .rulerows) tg us hs′ ts′
     driving = record { product = productOf m; starts = starts }
 
-    module _ {budget : ℕ} {r : Decision} {hs″ ts″ : List ℕ} (d : Driven z goal t (m .rulerows) tg us (zeros 256) (zeros 32) (startRows goal) hs′ ts′ budget r hs″ ts″) where
+    module _ {budget : ℕ} {r : Decision} {hs″ ts″ : List ℕ} (d : Driven z goal t (m .rulerows) tg us hs′ ts′ budget r hs″ ts″) where
       b : Answers (productOf m) z hs′ ts′ budget r hs″ ts″
       b = d .answers (productOf m) starts
 

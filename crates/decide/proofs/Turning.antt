@@ -74,7 +74,7 @@ module _ {p : Product} {z : Size} {n : ℕ} {wt wh rs tg by e hd hs ts : List �
           let (f, _, u) = Lists.some-of (λ f. not (held p n f) && held p (suc n) f) (cells p) (rw x tt) in
           absurd (T-not (held p n f) (and-left (not (held p n f)) (held p (suc n) f) u) (still f (and-right (not (held p n f)) (held p (suc n) f) u)))
 
-  module _ {us : List ℕ} (U : Uses p us) {t : Next} (c : Chosen us (record { triples = ce; heads = ch }) t) where
+  module _ {us : List ℕ} (U : Uses p us) {t : Next} (c : Chosen us ce ch t) where
     pub after-turn : After p z n rs tg hs ts t by′ e′ hd′ hs′ ts′
     after-turn = record {
       begins = record {

@@ -53,21 +53,21 @@ pub record Goals (p : Product) (goal : Goal) : Type 0 where
   pub state-is : goal .state ≡ p .start-state
   pub symbol-is : goal .symbol ≡ p .start-symbol
 
+-- the rows of the heads at first: the start head alone
+abbrev pub startRows : Goal → List ℕ
+startRows goal = set (zeros 32) (goal .symbol) ((1 * 2 ^ goal .state) % 2 ^ 64)
+
 -- round 0 stands, and t has the rules for the first round
-pub record Starts (p : Product) (z : Size) (goal : Goal) (t : Next) (rs tg us by e hd hs ts : List ℕ) : Type 0 where
-  pub begins : Begins p z 0 (t .wt) (t .wh) rs tg by e hd hs ts
+pub record Starts (p : Product) (z : Size) (goal : Goal) (t : Next) (rs tg us hs ts : List ℕ) : Type 0 where
+  pub begins : Begins p z 0 (t .wt) (t .wh) rs tg (zeros 256) (zeros 32) (startRows goal) hs ts
   pub uses : Uses p us
   pub goals : Goals p goal
   pub more-is : t .more ≡ 1
   pub changed-is : (x : ℕ) → bit (t .changed) x ≡ eqb (goal .symbol) x
 
--- the rows of the heads at first: the start head alone
-abbrev pub startRows : Goal → List ℕ
-startRows goal = set (zeros 32) (goal .symbol) ((1 * 2 ^ goal .state) % 2 ^ 64)
-
-pub record Driving (z : Size) (goal : Goal) (t : Next) (rs tg us by e hd hs ts : List ℕ) : Type 0 where
+pub record Driving (z : Size) (goal : Goal) (t : Next) (rs tg us hs ts : List ℕ) : Type 0 where
   pub product : Product
-  pub starts : Starts product z goal t rs tg us by e hd hs ts
+  pub starts : Starts product z goal t rs tg us hs ts
 
 -- the answer under the budget, and the ranks after its rounds
 pub record Answers (p : Product) (z : Size) (hs ts : List ℕ) (budget : ℕ) (r : Decision) (hs′ ts′ : List ℕ) : Type 0 where
@@ -77,5 +77,5 @@ pub record Answers (p : Product) (z : Size) (hs ts : List ℕ) (budget : ℕ) (r
   pub triples-kept : Kept of-triples z ts ts′
   pub heads-kept : Kept of-heads z hs hs′
 
-pub record Driven (z : Size) (goal : Goal) (t : Next) (rs tg us by e hd hs ts : List ℕ) (budget : ℕ) (r : Decision) (hs′ ts′ : List ℕ) : Type 0 where
-  pub answers : (p : Product) → Starts p z goal t rs tg us by e hd hs ts → Answers p z hs ts budget r hs′ ts′
+pub record Driven (z : Size) (goal : Goal) (t : Next) (rs tg us hs ts : List ℕ) (budget : ℕ) (r : Decision) (hs′ ts′ : List ℕ) : Type 0 where
+  pub answers : (p : Product) → Starts p z goal t rs tg us hs ts → Answers p z hs ts budget r hs′ ts′

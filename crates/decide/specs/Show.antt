@@ -12,7 +12,7 @@ use Rattle.steps.specs.Steps.{symbolOf}
 use Rattle.decide.specs.Sets.{among}
 use Rattle.decide.specs.Stamp.{of-heads}
 use Rattle.decide.specs.Gather.{kindAt, classAt, overAt, underAt, Empty}
-use Rattle.decide.specs.Take.{Took, Fits}
+use Rattle.decide.specs.Take.{Took, Room, Fits}
 
 -- the states in which the steps of class c end, from the heads of its symbol
 unfoldable pub landing : (tg hd : List ℕ) → (c : ℕ) → ℕ
@@ -56,3 +56,16 @@ RowsFit z nh = (g : ℕ) → g < 32 → Fits of-heads z g (getD nh g 0)
 pub record SettlesRows (z : Size) (k : ℕ) (nh hd hs : List ℕ) (w : ℕ) (nh′ hd′ hs′ : List ℕ) : Type 0 where
   pub took : Took of-heads z k (mats nh) hd hs w hd′ hs′
   pub empty : Empty 32 nh′
+
+-- a round of the heads can be run, with the rules of the set wh: what they give has a cell
+pub record HeadsReady (z : Size) (wh rs tg e hd hs : List ℕ) : Type 0 where
+  pub few : length wh ≡ 4
+  pub room : Room of-heads z hd hs
+  pub fit : {t : ℕ} {nh : List ℕ} → ShowsAll (shownAll rs tg e hd wh) t nh → RowsFit z nh
+
+-- the round: what the rules give is shown, and then taken in; w is the set of the symbols that changed
+pub record HeadsDone (z : Size) (k : ℕ) (wh rs tg e hd hs : List ℕ) (w : ℕ) (nh′ hd′ hs′ : List ℕ) : Type 0 where
+  pub touched : ℕ
+  pub rows : List ℕ
+  pub shows : ShowsAll (shownAll rs tg e hd wh) touched rows
+  pub settles : SettlesRows z k rows hd hs w nh′ hd′ hs′

@@ -14,13 +14,11 @@ use Rattle.bits.specs.Bit.{bit}
 use Rattle.bits.specs.Matrix.{mats}
 use Rattle.relations.specs.Quiet.{Enough}
 use Rattle.steps.specs.Steps.{symbolOf}
-use Rattle.decide.specs.declared.Next.{Next}
-use Rattle.decide.specs.declared.rounds.Changed.{Changed}
 use Rattle.decide.specs.Stamp.{Sort, of-heads, of-triples, viewOf, cellsOf}
 use Rattle.decide.specs.Take.{Room}
 use Rattle.decide.specs.Sets.{chosen}
 use Rattle.relations.specs.Relations.{rest}
-use Rattle.decide.specs.Gather.{classAt, Empty}
+use Rattle.decide.specs.Gather.{classAt}
 use Rattle.decide.specs.Frame.{Frame}
 
 -- after round n: the facts held in the matrices e and the rows hd, and their ranks in the two arrays
@@ -58,13 +56,6 @@ pub record Begins (p : Product) (z : Size) (n : ℕ) (wt wh rs tg by e hd hs ts 
   pub stored : Stored p n rs tg by
   pub standing : Standing p z n e hd hs ts
 
--- round k can be run, with the rules that t names
-pub record Ready (z : Size) (k : ℕ) (t : Next) (rs tg by e hd hs ts : List ℕ) : Type 0 where
-  pub product : Product
-  pub before : ℕ
-  pub next : k ≡ suc before
-  pub begins : Begins product z before (t .wt) (t .wh) rs tg by e hd hs ts
-
 -- as long as before, and the same past the table
 pub record Kept (s : Sort) (z : Size) (xs xs′ : List ℕ) : Type 0 where
   pub as-long : length xs′ ≡ length xs
@@ -80,10 +71,3 @@ pub record Ends (p : Product) (z : Size) (n : ℕ) (rs tg hs ts : List ℕ) (ce 
   pub heads-quiet : (q g : ℕ) → bit ch g ≡ false → T (held p (suc n) (head q g)) → T (held p n (head q g))
   pub triples-fresh : (g : ℕ) → T (bit ce g) → (q : ℕ) × (x : ℕ) × T (held p (suc n) (triple q g x)) × T (not (held p n (triple q g x)))
   pub heads-fresh : (g : ℕ) → T (bit ch g) → (q : ℕ) × T (held p (suc n) (head q g)) × T (not (held p n (head q g)))
-
--- Round k, for every product that the arrays hold; c has the symbols that changed. nh is empty before a round and after it.
-pub record RoundDone (z : Size) (k : ℕ) (t : Next) (rs tg by e hd hs ts : List ℕ) (c : Changed) (by′ nh′ e′ hd′ hs′ ts′ : List ℕ) : Type 0 where
-  pub ends : (p : Product) (n : ℕ) → k ≡ suc n → Begins p z n (t .wt) (t .wh) rs tg by e hd hs ts → Ends p z n rs tg hs ts (c .triples) (c .heads) by′ e′ hd′ hs′ ts′
-  pub empty : Empty 32 nh′
-  pub heads-long : length hs′ ≡ length hs
-  pub triples-long : length ts′ ≡ length ts

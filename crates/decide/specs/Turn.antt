@@ -14,7 +14,6 @@ use Rattle.table.specs.declared.Size.{Size}
 use Rattle.bits.specs.Bit.{bit}
 use Rattle.bits.specs.Matrix.{some}
 use Rattle.decide.specs.declared.Next.{Next}
-use Rattle.decide.specs.declared.rounds.Changed.{Changed}
 use Rattle.decide.specs.Sets.{member, chosen}
 use Rattle.decide.specs.Gather.{zeros}
 use Rattle.decide.specs.Stamp.{of-heads, of-triples}
@@ -39,14 +38,14 @@ pub record Uses (p : Product) (us : List ℕ) : Type 0 where
   pub there : (r : ℕ) → r < p .rules → UsesOf us r (p .rule r)
   pub only : (s r : ℕ) → r < 256 → T (member us s r) → r < p .rules
 
--- the rules that need what changed; `more` is 0 if nothing did
-pub record Chosen (us : List ℕ) (c : Changed) (t : Next) : Type 0 where
-  pub more-is : t .more ≡ bitOr (c .triples) (c .heads)
-  pub changed-is : t .changed ≡ c .heads
-  pub triples : Collected us 0 (c .triples) (zeros 4) (t .wt)
+-- the rules that need what changed, by the symbols ce of new triples and ch of new heads; `more` is 0 if there are none
+pub record Chosen (us : List ℕ) (ce ch : ℕ) (t : Next) : Type 0 where
+  pub more-is : t .more ≡ bitOr ce ch
+  pub changed-is : t .changed ≡ ch
+  pub triples : Collected us 0 ce (zeros 4) (t .wt)
   pub by-triples : List ℕ
-  pub returned : Collected us 32 (c .triples) (zeros 4) by-triples
-  pub heads : Collected us 64 (c .heads) by-triples (t .wh)
+  pub returned : Collected us 32 ce (zeros 4) by-triples
+  pub heads : Collected us 64 ch by-triples (t .wh)
 
 -- What stands after round n + 1, with enough rules for the next. `more` is 0 exactly if the round added nothing; `changed` has the symbols with a new head.
 pub record After (p : Product) (z : Size) (n : ℕ) (rs tg hs ts : List ℕ) (t : Next) (by′ e′ hd′ hs′ ts′ : List ℕ) : Type 0 where

@@ -8,8 +8,9 @@ ghost use Rattle.bits.specs.Bit.{bit};
 ghost use Rattle.decide.specs.Stamp.{of-heads, alone};
 ghost use Rattle.decide.specs.Gather.{classAt, Empty};
 ghost use Rattle.decide.specs.Take.{Took, Room, Fits};
-ghost use Rattle.decide.specs.Show.{landing, shown, shownAll, Shows, RowsCover, ShowsAll, RowsFit, SettlesRows};
+ghost use Rattle.decide.specs.Show.{landing, shown, shownAll, Shows, RowsCover, ShowsAll, RowsFit, SettlesRows, HeadsReady, HeadsDone};
 use crate::rows::row_at;
+use crate::sets::gain;
 use crate::sets::pick;
 use crate::stamps::stamp_heads;
 use table::Size;
@@ -68,7 +69,7 @@ fn show(
 }
 
 // The rules of a set.
-pub(crate) fn show_all(
+fn show_all(
     set: [u64; 4],
     rules: &[u8; 1024],
     tg: &[u64; 256],
@@ -97,18 +98,16 @@ fn take_heads(size: Size, g: usize, m: u64, k: u16, hd: &mut [u64; 32], heads: &
     requires { ⌜ Fits of-heads size g m ⌝ }
     ensures { λ w. ⌜ Took of-heads size k (alone g m) (now (hd .entry)) (now (heads .entry)) w (now (hd .exit)) (now (heads .exit)) ⌝ }
 {
-    let old = hd[g];
-    let all = old | m;
-    if all == old {
+    let new = gain(hd, g, m);
+    if new == 0 {
         return 0;
     }
-    hd[g] = all;
-    stamp_heads(heads, size, g, all ^ old, k);
+    stamp_heads(heads, size, g, new, k);
     1u64 << (g as u64)
 }
 
 // The symbols of a set take in their rows, which are then empty again. Answers the set of the symbols that changed.
-pub(crate) fn settle_heads(
+fn settle_heads(
     size: Size,
     touched: u64,
     k: u16,
@@ -130,4 +129,24 @@ pub(crate) fn settle_heads(
         nh[g] = 0;
     }
     changed
+}
+
+// The heads of round k, by the rules of a set. The rows nh are empty before and after. Answers the set of the symbols that changed.
+pub(crate) fn round_heads(
+    size: Size,
+    k: u16,
+    set: [u64; 4],
+    rules: &[u8; 1024],
+    tg: &[u64; 256],
+    e: &[u64; 32],
+    nh: &mut [u64; 32],
+    hd: &mut [u64; 32],
+    heads: &mut [u16],
+) -> u64
+    requires { ⌜ HeadsReady size set (now rules) (now tg) (now e) (now hd) (now heads) ⌝ }
+    requires { ⌜ Empty 32 (now nh) ⌝ }
+    ensures { λ w. ⌜ HeadsDone size k set (now (rules .entry)) (now (tg .entry)) (now (e .entry)) (now (hd .entry)) (now (heads .entry)) w (now (nh .exit)) (now (hd .exit)) (now (heads .exit)) ⌝ }
+{
+    let touched = show_all(set, rules, tg, e, hd, nh);
+    settle_heads(size, touched, k, nh, hd, heads)
 }

@@ -4,6 +4,7 @@ ghost use Prim.Native.Nat.{ℕ, _<_, _+_, _≤_, _*_, _^_};
 ghost use lib.ListN.{length, getD};
 ghost use lib.Dec.{T};
 ghost use Rattle.bits.specs.Bit.{bit};
+ghost use Rattle.decide.specs.Take.{Gained};
 ghost use Rattle.decide.specs.Turn.{Collected};
 ghost use Rattle.decide.specs.Sets.{With, Picked, Joined, Put};
 
@@ -15,6 +16,18 @@ pub(crate) fn add(set: &mut [u64; 4], c: usize)
 {
     let k = c / 64;
     set[k] = set[k] | (1u64 << ((c % 64) as u64));
+}
+
+// Word g takes in m. Answers the bits that it did not have.
+pub(crate) fn gain(held: &mut [u64; 32], g: usize, m: u64) -> u64
+    requires { ⌜ g < 32 ⌝ }
+    requires { ⌜ length (now held) ≡ 32 ⌝ }
+    ensures { λ new. ⌜ Gained (now (held .entry)) g m new (now (held .exit)) ⌝ }
+{
+    let old = held[g];
+    let all = old | m;
+    held[g] = all;
+    all ^ old
 }
 
 // Takes the lowest member out of word k, which is d.

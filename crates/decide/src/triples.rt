@@ -5,10 +5,11 @@ ghost use lib.ListN.{length, getD, set};
 ghost use Rattle.steps.specs.Steps.{symbolOf};
 ghost use Rattle.decide.specs.Stamp.{of-triples, alone};
 ghost use Rattle.decide.specs.Gather.{restOf, added, addedBy, Visits, Gains};
-ghost use Rattle.decide.specs.Take.{Took, Room, Fits, givenBy, fromClass, fromClasses, AllFit};
+ghost use Rattle.decide.specs.Take.{Took, Room, Fits, givenBy, fromClass, fromClasses, AllFit, TriplesReady, TriplesDone};
 use crate::rows::Row;
 use crate::rows::row_at;
 use crate::sets::add;
+use crate::sets::gain;
 use crate::sets::pick;
 use crate::stamps::stamp;
 use table::Size;
@@ -58,12 +59,7 @@ fn visit(i: usize, rules: &[u8; 1024], e: &[u64; 32], by: &mut [u64; 256], touch
 }
 
 // The rules of a set. Answers the set of the classes that have more than before.
-pub(crate) fn gather(
-    set: [u64; 4],
-    rules: &[u8; 1024],
-    e: &[u64; 32],
-    by: &mut [u64; 256],
-) -> [u64; 4]
+fn gather(set: [u64; 4], rules: &[u8; 1024], e: &[u64; 32], by: &mut [u64; 256]) -> [u64; 4]
     requires { ⌜ length set ≡ 4 ⌝ }
     requires { ⌜ length (now by) ≡ 256 ⌝ }
     ensures { λ t. ⌜ Gains (addedBy (now (rules .entry)) (now (e .entry)) set) (now (by .entry)) t (now (by .exit)) ⌝ }
@@ -79,23 +75,8 @@ pub(crate) fn gather(
     }
 }
 
-// The matrix of symbol g takes in m, and its new triples get the rank k. Answers the set of g if there is one, and else the empty set.
-fn take(size: Size, g: usize, m: u64, k: u16, e: &mut [u64; 32], triples: &mut [u16]) -> u64
-    requires { ⌜ Room of-triples size (now e) (now triples) ⌝ }
-    requires { ⌜ Fits of-triples size g m ⌝ }
-    ensures { λ w. ⌜ Took of-triples size k (alone g m) (now (e .entry)) (now (triples .entry)) w (now (e .exit)) (now (triples .exit)) ⌝ }
-{
-    let old = e[g];
-    let all = old | m;
-    if all == old {
-        return 0;
-    }
-    e[g] = all;
-    stamp(triples, size, g, all ^ old, k);
-    1u64 << (g as u64)
-}
-
-// The symbol of class c takes in what is run after the steps of the class, through its steps.
+// The symbol of class c takes in what is run after the steps of the class, through its steps, and its new triples get the rank k. Answers the set of
+// the symbol if there is one, and else the empty set.
 fn settle(
     size: Size,
     c: usize,
@@ -111,11 +92,17 @@ fn settle(
     ensures { λ w. ⌜ Took of-triples size k (fromClass (now (tg .entry)) (now (by .entry)) c) (now (e .entry)) (now (triples .entry)) w (now (e .exit)) (now (triples .exit)) ⌝ }
 {
     let m = bits::product(tg[c], by[c]);
-    take(size, steps::symbol_of(c), m, k, e, triples)
+    let g = steps::symbol_of(c);
+    let new = gain(e, g, m);
+    if new == 0 {
+        return 0;
+    }
+    stamp(triples, size, g, new, k);
+    1u64 << (g as u64)
 }
 
 // The symbols take in what the round gives the classes of a set. Answers the set of the symbols that changed.
-pub(crate) fn settle_all(
+fn settle_all(
     size: Size,
     touched: [u64; 4],
     k: u16,
@@ -138,4 +125,22 @@ pub(crate) fn settle_all(
         }
         changed = changed | settle(size, c, k, tg, by, e, triples);
     }
+}
+
+// The triples of round k, by the rules of a set. Answers the set of the symbols that changed.
+pub(crate) fn round_triples(
+    size: Size,
+    k: u16,
+    set: [u64; 4],
+    rules: &[u8; 1024],
+    tg: &[u64; 256],
+    by: &mut [u64; 256],
+    e: &mut [u64; 32],
+    triples: &mut [u16],
+) -> u64
+    requires { ⌜ TriplesReady size set (now rules) (now tg) (now by) (now e) (now triples) ⌝ }
+    ensures { λ w. ⌜ TriplesDone size k set (now (rules .entry)) (now (tg .entry)) (now (by .entry)) (now (e .entry)) (now (triples .entry)) w (now (by .exit)) (now (e .exit)) (now (triples .exit)) ⌝ }
+{
+    let touched = gather(set, rules, e, by);
+    settle_all(size, touched, k, tg, by, e, triples)
 }

@@ -1,7 +1,7 @@
 use Rattle.model.specs.Valid.{ofParts}
 use Rattle.model.proofs.Valid.{valid-sizes}
 use Rattle.decide.proofs.Emptied.{empty-first}
-use Rattle.decide.proofs.Starting.{state-in, symbol-in, driving, heads-same, triples-same, ran}
+use Rattle.decide.proofs.Starting.{symbol-in, driving, heads-same, triples-same, ran}
 use native.Mathlib.Omega.{arith}
 use borrow.Author.Needs.{needs}
 use Rattle.decide.proofs.run.Statement.{statement}
@@ -36,9 +36,9 @@ first-rules-requires c κs = let s = c .before .before .before .before .before .
 
 -- src/lib.rt:77:5
 run-requires : tie.Need-run-requires
-run-requires c κs = let built = c .before .before .before .before in let begun = built .before .before .before .before .before .before .before .before in let goal = begun .before .before .before in let s = goal .before .before .before in let v = s .pre .valid-model in
+run-requires c κs = let built = c .before .before .before .before in let begun = built .before .before .before .before .before .before .before .before in let goal = begun .before .before .before in let s = goal .before .before .before in
     let m = ofParts (s .args .shape) (s .args .rulerows .now) (s .args .moverows .now) (s .args .shows .now) (s .args .finals .now) in
-    ((state-in m v (goal .goal-of .ensures), symbol-in m v (goal .goal-of .ensures)), driving m v (s .pre) (goal .goal-of .ensures) (begun .start .ensures) (built .first-rules .ensures) (built .before .before .class-steps .ensures))
+    driving m (s .pre .valid-model) (s .pre) (goal .goal-of .ensures) (begun .start .ensures) (built .first-rules .ensures) (built .before .before .class-steps .ensures)
 
 -- src/lib.rt:55:1
 same-length : tie.Need-same-length
