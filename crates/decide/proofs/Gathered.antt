@@ -14,7 +14,6 @@ use Rattle.product.proofs.Lists.{or-right, same-truth, T-true}
 use Rattle.bits.specs.Bit.{bit}
 use Rattle.bits.specs.Matrix.{entry, mat, mats, some, multiplied}
 use Rattle.bits.proofs.Bit.{bit-or, bit-zero}
-use Rattle.bits.proofs.Matrix.{none-left, none-right}
 use Rattle.decide.specs.declared.rows.Row.{Row}
 use Rattle.decide.specs.Sets.{chosen, among, With, Picked}
 use Rattle.decide.specs.Stamp.{Entries}
@@ -33,12 +32,6 @@ rest-direct kind g1 g2 e h k = rw (ne-eqb kind 0 h, eq-eqb kind 1 k)
 pub rest-call : (kind g1 g2 : ℕ) (e : List ℕ) → (kind ≡ 0 → ⊥) → (kind ≡ 1 → ⊥) → multiplied (getD e g1 0) (getD e g2 0) ≡ restOf kind g1 g2 e
 unfolding restOf
 rest-call kind g1 g2 e h k = rw (ne-eqb kind 0 h, ne-eqb kind 1 k)
-
-pub rest-none : (kind g1 g2 : ℕ) (e : List ℕ) → (kind ≡ 0 → ⊥) → (kind ≡ 1 → ⊥) → getD e g1 0 ≡ 0 → 0 ≡ restOf kind g1 g2 e
-rest-none kind g1 g2 e h k z = none-left (getD e g1 0) (getD e g2 0) z ∙ rest-call kind g1 g2 e h k
-
-pub rest-no-end : (kind g1 g2 : ℕ) (e : List ℕ) → (kind ≡ 0 → ⊥) → (kind ≡ 1 → ⊥) → getD e g2 0 ≡ 0 → 0 ≡ restOf kind g1 g2 e
-rest-no-end kind g1 g2 e h k z = none-right (getD e g1 0) (getD e g2 0) z ∙ rest-call kind g1 g2 e h k
 
 -- as entries
 or-and : (a b x y : Bool) → a && b && (x || y) ≡ (a && b && x) || (a && b && y)

@@ -2,6 +2,7 @@
 ghost use mathlib.Core.Path.{_≡_};
 ghost use Prim.Native.Nat.{ℕ, _+_, _%_, _<_, _≤_};
 ghost use lib.ListN.{length, getD, set};
+ghost use Rattle.bits.specs.Matrix.{multiplied};
 ghost use Rattle.steps.specs.Steps.{symbolOf};
 ghost use Rattle.decide.specs.Stamp.{of-triples, alone};
 ghost use Rattle.decide.specs.Gather.{restOf, added, addedBy, Visits, Gains};
@@ -13,6 +14,19 @@ use crate::sets::gain;
 use crate::sets::pick;
 use crate::stamps::stamp;
 use table::Size;
+
+// The product of two matrices; where one is empty, none is needed.
+fn times(first: u64, second: u64) -> u64
+    ensures { λ r. ⌜ r ≡ multiplied first second ⌝ }
+{
+    if first == 0 {
+        return 0;
+    }
+    if second == 0 {
+        return 0;
+    }
+    bits::product(first, second)
+}
 
 // What is run after a step of a rule, as a matrix.
 fn rest(row: Row, e: &[u64; 32]) -> u64
@@ -29,14 +43,7 @@ fn rest(row: Row, e: &[u64; 32]) -> u64
         return first;
     }
     let under = row.under;
-    let second = e[under];
-    if first == 0 {
-        return 0; // no product is needed
-    }
-    if second == 0 {
-        return 0;
-    }
-    bits::product(first, second)
+    times(first, e[under])
 }
 
 // Rule i adds what is run after its step to the matrix of its class. A class that has more by it is noted in the set.
