@@ -14,15 +14,13 @@ use Rattle.model.specs.Model as model
 use Rattle.model.specs.Model.{inRow, rule, productOf}
 use Rattle.model.specs.Valid.{valid}
 use Rattle.model.proofs.Valid.{valid-sizes, product-in}
-use Rattle.steps.specs.Steps.{classSteps}
-use Rattle.steps.proofs.Laws.{step-entry, entry-step, steps-in}
+use Rattle.steps.specs.Steps.{symbolOf, classSteps}
+use Rattle.steps.proofs.Laws.{symbol-same, step-entry, entry-step, steps-in}
 use Rattle.relations.specs.Relations.{goes, steps}
 use Rattle.relations.proofs.Made.{of-steps}
 use Rattle.bits.specs.Matrix.{mats}
 use Rattle.decide.specs.Gather.{kindAt, classAt, overAt, underAt}
-use Rattle.decide.specs.Take.{symbolAt}
-use Rattle.decide.specs.Frame.{ruleBy, Frame}
-use Rattle.decide.specs.Build.{SameSymbols, rowRule}
+use Rattle.decide.specs.Frame.{ruleBy, rowRule, Frame}
 
 -- the two ways to name a row's numbers, and a rule by its kind
 row-at : (rows : List ℕ) (r i : ℕ) → inRow 4 rows r i ≡ getD rows (4 * r + i) 0
@@ -70,7 +68,7 @@ module _ (m : Model) (v : T (valid m)) where
 
   -- the rule of a row, whose class is its symbol
   pub row-is : (r : ℕ) → r < m .rules → rule m r ≡ rowRule (m .rulerows) r
-  row-is r l = rule-is r l ∙ ap (λ g. ruleBy (kindAt (m .rulerows) r) g (overAt (m .rulerows) r) (underAt (m .rulerows) r)) (sym (mod-eq-of-lt (class-lt r l)))
+  row-is r l = rule-is r l ∙ ap (λ g. ruleBy (kindAt (m .rulerows) r) g (overAt (m .rulerows) r) (underAt (m .rulerows) r)) (sym (symbol-same (classAt (m .rulerows) r) (class-lt r l)))
 
   -- THE STEPS of a rule are those of its class
   class-steps : (r : ℕ) → r < m .rules → (q q′ : ℕ) → steps (productOf m) r q q′ ≡ mats (classSteps (m .moverows) (m .shows) (m .moves) (m .symbols)) (symbol (rule m r)) q q′
@@ -84,13 +82,12 @@ module _ (m : Model) (v : T (valid m)) where
           let (w, i, e) = entry-step m v r l q q′ t in
           any-of (λ w. goes (productOf m .next (record { by-rule = r; by-move = w }) q) q′) (upTo (m .moves)) w (in-upTo (m .moves) w i) (subst⁻¹ (λ o. T (goes o q′)) e (eqb-refl q′))
 
-  pub model-frame : (sy tg : List ℕ) → SameSymbols 32 sy → tg ≡ classSteps (m .moverows) (m .shows) (m .moves) (m .symbols)
-      → Frame (productOf m) (m .states) (m .rulerows) sy tg
-  model-frame sy tg same tg-is = record {
+  pub model-frame : {tg : List ℕ} → tg ≡ classSteps (m .moverows) (m .shows) (m .moves) (m .symbols) → Frame (productOf m) (m .states) (m .rulerows) tg
+  model-frame tg-is = record {
     few-states = valid-sizes m v .states;
     few-rules = valid-sizes m v .rules;
     states-are = refl;
-    rules-are = λ r l. row-is r l ∙ ap (λ g. ruleBy (kindAt (m .rulerows) r) (g % 32) (overAt (m .rulerows) r) (underAt (m .rulerows) r)) (sym (same (classAt (m .rulerows) r) (class-lt r l)));
+    rules-are = row-is;
     class-in = λ r l. omega (arith, class-lt r l);
     steps-are = λ r q q′ l. class-steps r l q q′ ∙ ap₂ (λ t g. mats t g q q′) (sym tg-is) (symbol-is r);
     steps-in = λ c q q′ t. steps-in m v c q q′ (subst (λ l. T (mats l c q q′)) tg-is t);

@@ -129,9 +129,9 @@ module _ (w : List ℕ) (k d : ℕ) (long : length w ≡ 4) (k-in : k < 4) (pos 
           ∙ and-true (chosen w x) ∙ ap (λ b. chosen w x && not b) (sym (apart x r (λ e. y (sym word-is ∙ sym e))))
 
 -- no word is left
-pub picked-none : (w : List ℕ) → length w ≡ 4 → getD w 0 0 ≡ 0 → getD w 1 0 ≡ 0 → getD w 2 0 ≡ 0 → getD w 3 0 ≡ 0 → Picked w 256 w
+picked-none : (w : List ℕ) → length w ≡ 4 → ((k : ℕ) → k < 4 → getD w k 0 ≡ 0) → Picked w 256 w
 unfolding chosen
-picked-none w long a b c d = record {
+picked-none w long word = record {
   long = long;
   there = λ h. absurd (omega arith);
   less = λ h. absurd (omega arith);
@@ -139,13 +139,6 @@ picked-none w long a b c d = record {
   none = λ _ x. at x (decLt (x / 64) 4);
 }
   where
-    word : (k : ℕ) → k < 4 → getD w k 0 ≡ 0
-    word zero l = a
-    word (suc zero) l = b
-    word (suc (suc zero)) l = c
-    word (suc (suc (suc zero))) l = d
-    word (suc (suc (suc (suc k)))) l = absurd (omega arith)
-
     at : (x : ℕ) → Dec (x / 64 < 4) → chosen w x ≡ false
     at x (yes l) = ap (λ n. bit n (x % 64)) (word (x / 64) l) ∙ bit-zero (x % 64)
     at x (no l) = ap (λ n. bit n (x % 64)) (past w (x / 64) (omega (arith, long))) ∙ bit-zero (x % 64)
@@ -155,20 +148,66 @@ picked-none w long a b c d = record {
         past (a ∷ w) zero h = absurd (omega arith)
         past (a ∷ w) (suc i) h = past w i (omega arith)
 
--- a set joined with another, word by word
-pub joined-is : (w l : List ℕ) (s : ℕ) → Joined w l s
-    (bitOr (getD w 0 0) (getD l (s * 4) 0) ∷ bitOr (getD w 1 0) (getD l (s * 4 + 1) 0) ∷ bitOr (getD w 2 0) (getD l (s * 4 + 2) 0) ∷ bitOr (getD w 3 0) (getD l (s * 4 + 3) 0) ∷ [])
-unfolding chosen member
-joined-is w l s = record { long = refl; is = λ x h. at x (x / 64) refl (word-of x h) }
-  where
-    at : (x k : ℕ) → x / 64 ≡ k → k < 4
-        → chosen (bitOr (getD w 0 0) (getD l (s * 4) 0) ∷ bitOr (getD w 1 0) (getD l (s * 4 + 1) 0) ∷ bitOr (getD w 2 0) (getD l (s * 4 + 2) 0) ∷ bitOr (getD w 3 0) (getD l (s * 4 + 3) 0) ∷ []) x
-        ≡ chosen w x || member l s x
-    at x zero e h = rw (e, add-zero (s * 4)) (bit-or (getD w 0 0) (getD l (s * 4) 0) (x % 64))
-    at x (suc zero) e h = rw e (bit-or (getD w 1 0) (getD l (s * 4 + 1) 0) (x % 64))
-    at x (suc (suc zero)) e h = rw e (bit-or (getD w 2 0) (getD l (s * 4 + 2) 0) (x % 64))
-    at x (suc (suc (suc zero))) e h = rw e (bit-or (getD w 3 0) (getD l (s * 4 + 3) 0) (x % 64))
-    at x (suc (suc (suc (suc k)))) e h = absurd (omega arith)
+-- the loop over the words: the set is as it was, and the first k words are empty
+pub record Passed (w₀ : List ℕ) (k : ℕ) (w : List ℕ) : Type 0 where
+  pub few : k ≤ 4
+  pub same : w ≡ w₀
+  pub empty : (j : ℕ) → j < k → getD w₀ j 0 ≡ 0
+
+module _ {w₀ : List ℕ} where
+  pub passed-first : Passed w₀ 0 w₀
+  passed-first = record { few = omega arith; same = refl; empty = λ j h. absurd (omega arith) }
+
+  module _ {k : ℕ} {w : List ℕ} (p : Passed w₀ k w) where
+    pub passed-long : length w₀ ≡ 4 → length w ≡ 4
+    passed-long n = ap length (p .same) ∙ n
+
+    pub passed-next : k < 4 → getD w k 0 ≡ 0 → Passed w₀ (k + 1) w
+    passed-next l z = record { few = omega arith; same = p .same; empty = λ j h. at j h (ℕ-discrete j k) }
+      where
+        at : (j : ℕ) → j < k + 1 → Dec (j ≡ k) → getD w₀ j 0 ≡ 0
+        at j h (yes e) = ap (λ j. getD w₀ j 0) e ∙ ap (λ w. getD w k 0) (sym (p .same)) ∙ z
+        at j h (no e) = p .empty j (omega arith)
+
+    pub passed-pick : {r : ℕ} {w′ : List ℕ} → Picked w r w′ → Picked w₀ r w′
+    passed-pick {r} {w′} = subst (λ w. Picked w r w′) (p .same)
+
+    pub passed-all : 4 ≤ k → length w₀ ≡ 4 → Picked w₀ 256 w
+    passed-all l n = subst⁻¹ (Picked w₀ 256) (p .same) (picked-none w₀ n (λ j h. p .empty j (omega arith)))
+
+-- a set joined with set number s, word by word: the first k are done
+pub record JoinedTo (w l : List ℕ) (s k : ℕ) (w′ : List ℕ) : Type 0 where
+  pub few : k ≤ 4
+  pub long : length w′ ≡ 4
+  pub done : (j : ℕ) → j < k → getD w′ j 0 ≡ bitOr (getD w j 0) (getD l (s * 4 + j) 0)
+  pub same : (j : ℕ) → k ≤ j → getD w′ j 0 ≡ getD w j 0
+
+module _ {w l : List ℕ} {s : ℕ} where
+  pub joined-none : length w ≡ 4 → JoinedTo w l s 0 w
+  joined-none n = record { few = omega arith; long = n; done = λ j h. absurd (omega arith); same = λ j h. refl }
+
+  pub joined-more : {k : ℕ} {w′ : List ℕ} → k < 4 → JoinedTo w l s k w′ → JoinedTo w l s (k + 1) (set w′ k (bitOr (getD w′ k 0) (getD l (s * 4 + k) 0)))
+  joined-more {k} {w′} h a = record {
+    few = omega arith;
+    long = length-set w′ k (bitOr (getD w′ k 0) (getD l (s * 4 + k) 0)) ∙ a .long;
+    done = λ j i. at j i (ℕ-discrete j k);
+    same = λ j i. getD-set-other w′ k j (bitOr (getD w′ k 0) (getD l (s * 4 + k) 0)) 0 (λ e. omega arith) ∙ a .same j (omega arith);
+  }
+    where
+      at : (j : ℕ) → j < k + 1 → Dec (j ≡ k) → getD (set w′ k (bitOr (getD w′ k 0) (getD l (s * 4 + k) 0))) j 0 ≡ bitOr (getD w j 0) (getD l (s * 4 + j) 0)
+      at j i (yes e) =
+          subst⁻¹ (λ j. getD (set w′ k (bitOr (getD w′ k 0) (getD l (s * 4 + k) 0))) j 0 ≡ bitOr (getD w j 0) (getD l (s * 4 + j) 0)) e
+          (getD-set-same w′ k (bitOr (getD w′ k 0) (getD l (s * 4 + k) 0)) 0 (omega (arith, a .long)) ∙ ap (λ n. bitOr n (getD l (s * 4 + k) 0)) (a .same k (omega arith)))
+      at j i (no e) = getD-set-other w′ k j (bitOr (getD w′ k 0) (getD l (s * 4 + k) 0)) 0 e ∙ a .done j (omega arith)
+
+  pub joined-all : {k : ℕ} {w′ : List ℕ} → 4 ≤ k → JoinedTo w l s k w′ → Joined w l s w′
+  unfolding chosen member
+  joined-all {k} {w′} h a = record {
+    long = a .long;
+    is = λ x i.
+        ap (λ n. bit n (x % 64)) (a .done (x / 64) (omega (arith, word-of x i)))
+        ∙ bit-or (getD w (x / 64) 0) (getD l (s * 4 + x / 64) 0) (x % 64);
+  }
 
 pub put-is : (l : List ℕ) (s r : ℕ) → length l ≡ 384 → s < 96 → r < 256
     → Put l s r (set l (s * 4 + r / 64) (bitOr (getD l (s * 4 + r / 64) 0) ((1 * 2 ^ (r % 64)) % 2 ^ 64)))

@@ -16,7 +16,7 @@ use Rattle.decide.specs.Decided.{longEnough, decision, headsLeft, triple
 use Rattle.decide.specs.Ran.{Able, Ran}
 
 -- what a record says beside its arrays; a record's parts are valid exactly if it is
-abbrev shape : Model → Shape
+abbrev pub shape : Model → Shape
 shape m = record { symbols = m .symbols; states = m .states; events = m .events; startstate = m .startstate; startsymbol = m .startsymbol; rules = m .rules; moves = m .moves }
 
 pub of-parts : (m : Model) {b : Bool} → b ≡ valid (ofParts (shape m) (m .rulerows) (m .moverows) [] []) → b ≡ valid m

@@ -5,24 +5,15 @@ ghost use Prim.Native.Nat.{ℕ, _<_, _≤_, _^_};
 ghost use lib.Dec.{ltb};
 ghost use lib.ListN.{length, getD};
 ghost use Rattle.bits.specs.Bit.{bit};
-ghost use Rattle.decide.specs.Build.{SameSymbols, RulePut, RulesSorted};
+ghost use Rattle.decide.specs.Build.{RulePut, RulesSorted, First, GoalOf};
 ghost use Rattle.decide.specs.Gather.{Empty};
+use crate::Goal;
+use crate::Next;
+use crate::rows::row_at;
 use crate::sets::add;
+use crate::sets::collect;
 use crate::sets::put;
-use crate::triples::low;
-
-// The symbol of each class: with one location a class is its symbol.
-pub(crate) fn symbols() -> [u8; 256]
-    ensures { λ sy. ⌜ SameSymbols 32 sy ⌝ }
-{
-    let mut sy = [0u8; 256];
-    let mut c: usize = 0;
-    while c < 32 {
-        sy[c] = c as u8;
-        c += 1;
-    }
-    sy
-}
+use model::Shape;
 
 // Puts rule r into the sets of the symbols whose triples or heads it needs. An exit needs none, and is put among the exits.
 fn sort_rule(rules: &[u8; 1024], r: usize, us: &mut [u64; 384], exits: &mut [u64; 4])
@@ -31,28 +22,22 @@ fn sort_rule(rules: &[u8; 1024], r: usize, us: &mut [u64; 384], exits: &mut [u64
     requires { ⌜ length (now exits) ≡ 4 ⌝ }
     ensures { λ _. ⌜ RulePut (now (rules .entry)) r (now (us .entry)) (now (exits .entry)) (now (us .exit)) (now (exits .exit)) ⌝ }
 {
-    let kind = rules[4 * r];
-    if kind == 0 {
+    let row = row_at(rules, r);
+    if row.kind == 0 {
         add(exits, r);
         return;
     }
-    put(us, 64 + low(rules[4 * r + 1]), r);
-    let g1 = low(rules[4 * r + 2]);
-    put(us, g1, r);
-    if kind == 1 {
+    put(us, 64 + steps::symbol_of(row.class), r);
+    put(us, row.over, r);
+    if row.kind == 1 {
         return;
     }
-    put(us, low(rules[4 * r + 3]), r);
-    put(us, 32 + g1, r);
+    put(us, row.under, r);
+    put(us, 32 + row.over, r);
 }
 
 // The sets of rules by what they need, and the exits, which give triples in the first round. The sets are filled where they lie: they are large.
-pub(crate) fn sort_rules(
-    rules: &[u8; 1024],
-    count: usize,
-    us: &mut [u64; 384],
-    exits: &mut [u64; 4],
-)
+fn sort_rules(rules: &[u8; 1024], count: usize, us: &mut [u64; 384], exits: &mut [u64; 4])
     requires { ⌜ count ≤ 256 ⌝ }
     requires { ⌜ Empty 384 (now us) ⌝ }
     requires { ⌜ Empty 4 (now exits) ⌝ }
@@ -62,6 +47,25 @@ pub(crate) fn sort_rules(
     while r < count {
         sort_rule(rules, r, us, exits);
         r += 1;
+    }
+}
+
+// The rules of the first round, of the rules sorted into `us`: the exits, and those that need the head of the start symbol g.
+pub(crate) fn first_rules(rules: &[u8; 1024], count: usize, g: usize, us: &mut [u64; 384]) -> Next
+    requires { ⌜ count ≤ 256 ⌝ }
+    requires { ⌜ g < 32 ⌝ }
+    requires { ⌜ Empty 384 (now us) ⌝ }
+    ensures { λ t. ⌜ First (now (rules .entry)) count g (now (us .exit)) t ⌝ }
+{
+    let mut exits = [0u64; 4];
+    sort_rules(rules, count, us, &mut exits);
+    let changed = 1u64 << (g as u64);
+    let for_heads = collect(us, 64, changed, [0u64; 4]);
+    Next {
+        more: 1,
+        changed: changed,
+        wt: exits,
+        wh: for_heads,
     }
 }
 
@@ -77,7 +81,7 @@ fn if_final(finals: &[bool; 8], q: usize) -> u64
 }
 
 // The final states.
-pub(crate) fn final_states(finals: &[bool; 8]) -> u64
+fn final_states(finals: &[bool; 8]) -> u64
     ensures { λ r. ⌜ ((x : ℕ) → bit r x ≡ ltb x 8 && getD (now (finals .entry)) x false) ⌝ }
 {
     let mut r: u64 = 0;
@@ -87,4 +91,15 @@ pub(crate) fn final_states(finals: &[bool; 8]) -> u64
         q += 1;
     }
     r
+}
+
+// What is looked for in a model: its final states, from its start.
+pub(crate) fn goal_of(shape: Shape, finals: &[bool; 8]) -> Goal
+    ensures { λ goal. ⌜ GoalOf shape (now (finals .entry)) goal ⌝ }
+{
+    Goal {
+        finals: final_states(finals),
+        state: shape.startstate as usize,
+        symbol: shape.startsymbol as usize,
+    }
 }

@@ -3,10 +3,8 @@ ghost use mathlib.Core.Path.{_≡_};
 ghost use Rattle.decide.specs.Decided.{Decided};
 ghost use Rattle.model.specs.Valid.{ofParts};
 ghost use Rattle.decide.specs.Ran.{Able, Started, Ran};
-use crate::build::final_states;
-use crate::build::sort_rules;
-use crate::build::symbols;
-use crate::sets::collect;
+use crate::build::first_rules;
+use crate::build::goal_of;
 use model::Model;
 use model::Shape;
 use table::Size;
@@ -20,6 +18,23 @@ pub enum Decision {
     Spent(u32),
 }
 
+// What is looked for: the final states, from the start.
+struct Goal {
+    finals: u64,
+    state: usize,
+    symbol: usize,
+}
+
+// After a round: whether it added a fact, as a number that is 0 if it did not; the symbols with a new head; and the sets of the rules for the next
+// round, for its triples and for its heads.
+struct Next {
+    more: u64,
+    changed: u64,
+    wt: [u64; 4],
+    wh: [u64; 4],
+}
+
+mod rows; // the rules by their numbers
 mod sets; // sets of rules and of classes
 mod stamps; // the ranks of new facts
 mod triples; // a round of the triples
@@ -54,35 +69,56 @@ fn run<'a>(
         symbols: shape.symbols,
         states: shape.states,
     };
-    let q = shape.startstate as usize;
-    let g = shape.startsymbol as usize;
-    start(heads, triples, size, q, g);
+    let goal = goal_of(shape, finals);
+    start(heads, triples, size, goal.state, goal.symbol);
     let tg = steps::class_steps(moverows, shows, shape.moves, shape.symbols as usize);
-    let sy = symbols();
     let mut us = [0u64; 384];
-    let mut first = [0u64; 4];
-    sort_rules(rulerows, shape.rules, &mut us, &mut first);
-    let second = collect(&us, 64, 1u64 << (g as u64), [0u64; 4]);
-    let fins = final_states(finals);
-    let mut e = [0u64; 32];
-    let mut hd = [0u64; 32];
-    hd[g] = 1u64 << (q as u64);
+    let first = first_rules(rulerows, shape.rules, goal.symbol, &mut us);
     rounds::run(
         size,
-        fins,
-        q,
-        g,
+        goal,
         first,
-        second,
         rulerows,
-        &sy,
         &tg,
         &us,
-        &mut e,
-        &mut hd,
         heads,
         triples,
         budget,
+    )
+}
+
+// Decides a model that is lent in parts.
+fn decide_parts<'a>(
+    shape: Shape,
+    rulerows: &'a [u8; 1024],
+    moverows: &'a [u8; 384],
+    shows: &'a [bool; 512],
+    finals: &'a [bool; 8],
+    budget: u32,
+    heads: &mut [u16],
+    triples: &mut [u16],
+) -> Decision
+    ensures { λ r. ⌜ Decided (ofParts shape (now (rulerows .entry)) (now (moverows .entry)) (now (shows .entry)) (now (finals .entry))) budget (now (heads .entry)) (now (triples .entry)) r (now (heads .exit)) (now (triples .exit)) ⌝ }
+{
+    if !model::parts_valid(shape, rulerows, moverows) {
+        return Decision::Invalid;
+    }
+    let size = Size {
+        symbols: shape.symbols,
+        states: shape.states,
+    };
+    if !table::long_enough(heads, triples, size) {
+        return Decision::Short;
+    }
+    run(
+        shape,
+        rulerows,
+        moverows,
+        shows,
+        finals,
+        budget,
+        heads,
+        triples,
     )
 }
 
@@ -99,17 +135,7 @@ pub fn decide(m: Model, budget: u32, heads: &mut [u16], triples: &mut [u16]) -> 
         rules: m.rules,
         moves: m.moves,
     };
-    if !model::parts_valid(shape, &m.rulerows, &m.moverows) {
-        return Decision::Invalid;
-    }
-    let size = Size {
-        symbols: m.symbols,
-        states: m.states,
-    };
-    if !table::long_enough(heads, triples, size) {
-        return Decision::Short;
-    }
-    run(
+    decide_parts(
         shape,
         &m.rulerows,
         &m.moverows,

@@ -4,6 +4,7 @@ ghost use Prim.Native.Nat.{ℕ, _<_, _+_, _≤_, _*_, _^_};
 ghost use lib.ListN.{length, getD};
 ghost use lib.Dec.{T};
 ghost use Rattle.bits.specs.Bit.{bit};
+ghost use Rattle.decide.specs.Take.{Gained};
 ghost use Rattle.decide.specs.Turn.{Collected};
 ghost use Rattle.decide.specs.Sets.{With, Picked, Joined, Put};
 
@@ -17,6 +18,18 @@ pub(crate) fn add(set: &mut [u64; 4], c: usize)
     set[k] = set[k] | (1u64 << ((c % 64) as u64));
 }
 
+// Word g takes in m. Answers the bits that it did not have.
+pub(crate) fn gain(held: &mut [u64; 32], g: usize, m: u64) -> u64
+    requires { ⌜ g < 32 ⌝ }
+    requires { ⌜ length (now held) ≡ 32 ⌝ }
+    ensures { λ new. ⌜ Gained (now (held .entry)) g m new (now (held .exit)) ⌝ }
+{
+    let old = held[g];
+    let all = old | m;
+    held[g] = all;
+    all ^ old
+}
+
 // Takes the lowest member out of word k, which is d.
 fn pick_in(set: &mut [u64; 4], k: usize, d: u64) -> usize
     requires { ⌜ length (now set) ≡ 4 ⌝ }
@@ -28,43 +41,33 @@ fn pick_in(set: &mut [u64; 4], k: usize, d: u64) -> usize
     k * 64 + j
 }
 
-// Takes the lowest member out of the set; 256 where it has none. The words are named one by one, so that the compiler keeps each in a register.
+// Takes the lowest member out of the set; 256 where it has none. The loop is short enough for the compiler to keep each word in a register.
 pub(crate) fn pick(set: &mut [u64; 4]) -> usize
     requires { ⌜ length (now set) ≡ 4 ⌝ }
     ensures { λ r. ⌜ Picked (now (set .entry)) r (now (set .exit)) ⌝ }
 {
-    let d0 = set[0];
-    if d0 != 0 {
-        return pick_in(set, 0, d0);
-    }
-    let d1 = set[1];
-    if d1 != 0 {
-        return pick_in(set, 1, d1);
-    }
-    let d2 = set[2];
-    if d2 != 0 {
-        return pick_in(set, 2, d2);
-    }
-    let d3 = set[3];
-    if d3 != 0 {
-        return pick_in(set, 3, d3);
+    let mut k: usize = 0;
+    while k < 4 {
+        let d = set[k];
+        if d != 0 {
+            return pick_in(set, k, d);
+        }
+        k += 1;
     }
     256
 }
 
-// The set with the members of set number s.
-fn join(set: [u64; 4], sets: &[u64; 384], s: usize) -> [u64; 4]
-    requires { ⌜ length set ≡ 4 ⌝ }
+// The set takes in the members of set number s.
+fn join(set: &mut [u64; 4], sets: &[u64; 384], s: usize)
+    requires { ⌜ length (now set) ≡ 4 ⌝ }
     requires { ⌜ s < 96 ⌝ }
-    ensures { λ r. ⌜ Joined set (now (sets .entry)) s r ⌝ }
+    ensures { λ _. ⌜ Joined (now (set .entry)) (now (sets .entry)) s (now (set .exit)) ⌝ }
 {
-    let at = s * 4;
-    [
-        set[0] | sets[at],
-        set[1] | sets[at + 1],
-        set[2] | sets[at + 2],
-        set[3] | sets[at + 3],
-    ]
+    let mut k: usize = 0;
+    while k < 4 {
+        set[k] = set[k] | sets[s * 4 + k];
+        k += 1;
+    }
 }
 
 // Puts r into set number s.
@@ -90,8 +93,7 @@ pub(crate) fn collect(sets: &[u64; 384], from: usize, places: u64, set: [u64; 4]
     while d != 0 {
         let g = u64::trailing_zeros(d) as usize;
         d = d & (d - 1);
-        let joined = join(w, sets, from + g);
-        w = joined;
+        join(&mut w, sets, from + g);
     }
     w
 }

@@ -1,118 +1,72 @@
--- `decide::run` meets its contract. Assumes nothing.
-use mathlib.Core.Path.{refl}
-use native.Mathlib.Omega.{arith}
-use borrow.Author.Needs.{needs}
-use Rattle.model.specs.Model.{productOf}
 use Rattle.model.specs.Valid.{ofParts}
 use Rattle.model.proofs.Valid.{valid-sizes}
 use Rattle.decide.proofs.Emptied.{empty-first}
-use Rattle.decide.proofs.Starting.{q-in, g-in, one-low, starts, as-long, ran}
+use Rattle.decide.proofs.Starting.{symbol-in, driving, heads-same, triples-same, ran}
+use native.Mathlib.Omega.{arith}
+use borrow.Author.Needs.{needs}
 use Rattle.decide.proofs.run.Statement.{statement}
 use Rattle.decide.proofs.run.Tie as tie
+use Rattle.decide.proofs.run.Reads as reads
+use Rattle.decide.proofs.run.Lts as lts
+use Rattle.decide.proofs.build.first_rules.Reads as first-rules-reads
+use Rattle.decide.proofs.build.goal_of.Reads as goal-of-reads
+use Rattle.decide.proofs.rounds.run.Reads as run-reads
+use Rattle.decide.proofs.start.Reads as start-reads
+use Rattle.steps.proofs.class_steps.Reads as class-steps-reads
 
-cast-q : tie.Need-cast-q
-cast-q c = search needs
+-- src/lib.rt:72:9
+goal-of-requires : tie.Need-goal-of-requires
+goal-of-requires c κs = search needs
 
-cast-g : tie.Need-cast-g
-cast-g c = search needs
-
+-- src/lib.rt:73:5
 start-requires : tie.Need-start-requires
 start-requires c κs = search needs
 
+-- src/lib.rt:74:63
 cast-class-steps : tie.Need-cast-class-steps
 cast-class-steps c = search needs
 
+-- src/lib.rt:74:14
 class-steps-requires : tie.Need-class-steps-requires
 class-steps-requires c κs = search needs
 
-symbols-requires : tie.Need-symbols-requires
-symbols-requires c κs = search needs
+-- src/lib.rt:76:9
+first-rules-requires : tie.Need-first-rules-requires
+first-rules-requires c κs = let s = c .before .before .before .before .before .before .before .before .before .before .before .before .before in let v = s .pre .valid-model in (valid-sizes _ v .rules, (symbol-in _ v (c .before .before .before .before .before .before .before .before .before .before .goal-of .ensures), empty-first 384))
 
-sort-rules-requires : tie.Need-sort-rules-requires
-sort-rules-requires c κs = (valid-sizes _ (c .before .before .before .before .before .before .before .before .before .before .before .before .before .before .before .before .pre .valid-model) .rules, (empty-first 384, empty-first 4))
-
-shl-collect : tie.Need-shl-collect
-shl-collect c = omega (arith, g-in _ (c .before .before .before .before .before .before .before .before .before .before .before .before .before .before .before .before .before .before .pre .valid-model))
-
-collect-requires : tie.Need-collect-requires
-collect-requires c κs = let s = c .before .before .before .before .before .before .before .before .before .before .before .before .before .before .before .before .before .before in (omega arith, (one-low (s .args .shape .startsymbol) (g-in _ (s .pre .valid-model)), refl))
-
-final-states-requires : tie.Need-final-states-requires
-final-states-requires c κs = search needs
-
-shl-hd : tie.Need-shl-hd
-shl-hd c = omega (arith, q-in _ (c .before .before .before .before .before .before .before .before .before .before .before .before .before .before .before .before .before .before .before .before .pre .valid-model))
-
-mul-hd : tie.Need-mul-hd
-mul-hd c = let h = g-in _ (c .before .before .before .before .before .before .before .before .before .before .before .before .before .before .before .before .before .before .before .before .pre .valid-model) in search needs
-
-array-write-hd : tie.Need-array-write-hd
-array-write-hd c = g-in _ (c .before .before .before .before .before .before .before .before .before .before .before .before .before .before .before .before .before .before .before .before .pre .valid-model)
-
+-- src/lib.rt:77:5
 run-requires : tie.Need-run-requires
-run-requires c κs =
-    let s = c .before .before .before .before .before .before .before .before .before .before .before .before .before .before .before .before .before .before .before .before .before .before .before .before .before .before .before in
-    let m = ofParts (s .args .shape) (s .args .rulerows .now) (s .args .moverows .now) (s .args .shows .now) (s .args .finals .now) in (
-      productOf m,
-      starts m (s .pre .valid-model) (s .pre) (c .before .before .before .before .before .before .before .before .before .before .before .before .before .before .before .before .before .before .before .before .start .ensures)
-          (c .before .before .before .before .before .before .before .before .before .before .sort-rules .ensures .uses) (c .before .before .before .before .before .before .before .before .before .before .sort-rules .ensures .exits)
-          (c .before .before .before .before .before .before .before .before .collect .ensures) (c .before .before .before .before .before .before .before .before .before .before .before .before .before .symbols .ensures)
-          (c .before .before .before .before .before .before .before .before .before .before .before .before .before .before .class-steps .ensures) (c .before .before .before .before .before .before .before .final-states .ensures),
-    )
+run-requires c κs = let built = c .before .before .before .before in let begun = built .before .before .before .before .before .before .before .before in let goal = begun .before .before .before in let s = goal .before .before .before in
+    let m = ofParts (s .args .shape) (s .args .rulerows .now) (s .args .moverows .now) (s .args .shows .now) (s .args .finals .now) in
+    driving m (s .pre .valid-model) (s .pre) (goal .goal-of .ensures) (begun .start .ensures) (built .first-rules .ensures) (built .before .before .class-steps .ensures)
 
+-- src/lib.rt:55:1
 same-length : tie.Need-same-length
-same-length c =
-    let s = c .before .before .before .before .before .before .before .before .before .before .before .before .before .before .before .before .before .before .before .before .before .before .before .before .before .before .before .before .before .before .before .before in
+same-length c = let built = c .before .before .before .before .before .before .before .before .before in let begun = built .before .before .before .before .before .before .before .before in let goal = begun .before .before .before in let s = goal .before .before .before in
     let m = ofParts (s .args .shape) (s .args .rulerows .now) (s .args .moverows .now) (s .args .shows .now) (s .args .finals .now) in
-    as-long m (s .pre .valid-model) (s .pre) (c .before .before .before .before .before .before .before .before .before .before .before .before .before .before .before .before .before .before .before .before .before .before .before .before .before .start .ensures)
-    (c .before .before .before .before .before .before .before .before .before .before .before .before .before .before .before .sort-rules .ensures .uses)
-    (c .before .before .before .before .before .before .before .before .before .before .before .before .before .before .before .sort-rules .ensures .exits)
-    (c .before .before .before .before .before .before .before .before .before .before .before .before .before .collect .ensures) (c .before .before .before .before .before .before .before .before .before .before .before .before .before .before .before .before .before .before .symbols .ensures)
-    (c .before .before .before .before .before .before .before .before .before .before .before .before .before .before .before .before .before .before .before .class-steps .ensures)
-    (c .before .before .before .before .before .before .before .before .before .before .before .before .final-states .ensures)
-    (c .before .before .before .before .run .ensures) .0
+    heads-same m (s .pre .valid-model) (s .pre) (goal .goal-of .ensures) (begun .start .ensures) (built .first-rules .ensures) (built .before .before .class-steps .ensures) (c .before .before .before .before .run .ensures)
 
+-- src/lib.rt:55:1
 same-length-2 : tie.Need-same-length-2
-same-length-2 c =
-    let s = c .before .before .before .before .before .before .before .before .before .before .before .before .before .before .before .before .before .before .before .before .before .before .before .before .before .before .before .before .before .before .before .before in
+same-length-2 c = let built = c .before .before .before .before .before .before .before .before .before in let begun = built .before .before .before .before .before .before .before .before in let goal = begun .before .before .before in let s = goal .before .before .before in
     let m = ofParts (s .args .shape) (s .args .rulerows .now) (s .args .moverows .now) (s .args .shows .now) (s .args .finals .now) in
-    as-long m (s .pre .valid-model) (s .pre) (c .before .before .before .before .before .before .before .before .before .before .before .before .before .before .before .before .before .before .before .before .before .before .before .before .before .start .ensures)
-    (c .before .before .before .before .before .before .before .before .before .before .before .before .before .before .before .sort-rules .ensures .uses)
-    (c .before .before .before .before .before .before .before .before .before .before .before .before .before .before .before .sort-rules .ensures .exits)
-    (c .before .before .before .before .before .before .before .before .before .before .before .before .before .collect .ensures) (c .before .before .before .before .before .before .before .before .before .before .before .before .before .before .before .before .before .before .symbols .ensures)
-    (c .before .before .before .before .before .before .before .before .before .before .before .before .before .before .before .before .before .before .before .class-steps .ensures)
-    (c .before .before .before .before .before .before .before .before .before .before .before .before .final-states .ensures)
-    (c .before .before .before .before .run .ensures) .1
+    triples-same m (s .pre .valid-model) (s .pre) (goal .goal-of .ensures) (begun .start .ensures) (built .first-rules .ensures) (built .before .before .class-steps .ensures) (c .before .before .before .before .run .ensures)
 
+-- src/lib.rt:55:1
 returns : tie.Need-returns
-returns c =
-    let s = c .before .before .before .before .before .before .before .before .before .before .before .before .before .before .before .before .before .before .before .before .before .before .before .before .before .before .before .before .before .before .before .before in
+returns c = let built = c .before .before .before .before .before .before .before .before .before in let begun = built .before .before .before .before .before .before .before .before in let goal = begun .before .before .before in let s = goal .before .before .before in
     let m = ofParts (s .args .shape) (s .args .rulerows .now) (s .args .moverows .now) (s .args .shows .now) (s .args .finals .now) in
-    ran m (s .pre .valid-model) (s .pre) (c .before .before .before .before .before .before .before .before .before .before .before .before .before .before .before .before .before .before .before .before .before .before .before .before .before .start .ensures)
-    (c .before .before .before .before .before .before .before .before .before .before .before .before .before .before .before .sort-rules .ensures .uses)
-    (c .before .before .before .before .before .before .before .before .before .before .before .before .before .before .before .sort-rules .ensures .exits)
-    (c .before .before .before .before .before .before .before .before .before .before .before .before .before .collect .ensures) (c .before .before .before .before .before .before .before .before .before .before .before .before .before .before .before .before .before .before .symbols .ensures)
-    (c .before .before .before .before .before .before .before .before .before .before .before .before .before .before .before .before .before .before .before .class-steps .ensures)
-    (c .before .before .before .before .before .before .before .before .before .before .before .before .final-states .ensures)
-    (c .before .before .before .before .run .ensures)
+    ran m (s .pre .valid-model) (s .pre) (goal .goal-of .ensures) (begun .start .ensures) (built .first-rules .ensures) (built .before .before .class-steps .ensures) (c .before .before .before .before .run .ensures)
 
 pub run-spec : {M : Type 1} → statement M
 run-spec =
     tie.close
     (tie.spec
-    cast-q
-    cast-g
+    goal-of-requires
     start-requires
     cast-class-steps
     class-steps-requires
-    symbols-requires
-    sort-rules-requires
-    shl-collect
-    collect-requires
-    final-states-requires
-    shl-hd
-    mul-hd
-    array-write-hd
+    first-rules-requires
     run-requires
     same-length
     same-length-2

@@ -10,10 +10,10 @@ use Rattle.decide.proofs.heads.show.Reads as show-reads
 use Rattle.decide.proofs.sets.pick.Reads as pick-reads
 
 abbrev Inv-loop : tie.InvT-loop
-Inv-loop rules sy tg e hd nh₀ left₀ touched₀ nh left touched = Left rules sy tg e hd left₀ nh₀ left touched nh
+Inv-loop rules tg e hd nh₀ left₀ touched₀ nh left touched = Left rules tg e hd left₀ nh₀ left touched nh
 
 abbrev μ-loop : tie.MeasureT-loop
-μ-loop rules sy tg e hd nh₀ left₀ touched₀ nh left touched = weight left
+μ-loop rules tg e hd nh₀ left₀ touched₀ nh left touched = weight left
 
 -- src/heads.rt:84:5
 loop-holds : tie.Need-loop-holds Inv-loop μ-loop

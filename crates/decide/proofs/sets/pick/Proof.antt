@@ -1,62 +1,68 @@
--- `decide::sets::pick` meets its contract. Assumes nothing.
+use Prim.Native.Nat.{_-_}
+use mathlib.Core.Path.{refl}
+use Rattle.decide.proofs.Members.{Passed, passed-first, passed-long, passed-next, passed-pick, passed-all}
 use borrow.Author.Needs.{needs}
-use Rattle.decide.proofs.Members.{picked-none}
+use native.Mathlib.Omega.{arith}
 use Rattle.decide.proofs.sets.pick.Statement.{statement}
 use Rattle.decide.proofs.sets.pick.Tie as tie
+use Rattle.decide.proofs.sets.pick.Reads as reads
+use Rattle.decide.proofs.sets.pick.Lts as lts
+use Rattle.decide.proofs.sets.pick_in.Reads as pick-in-reads
 
-element-copy-out-d0 : tie.Need-element-copy-out-d0
-element-copy-out-d0 c = search needs
+abbrev Inv-loop : tie.InvT-loop
+Inv-loop set₀ k₀ set k = Passed set₀ k set
 
-pick-in-requires : tie.Need-pick-in-requires
-pick-in-requires c κs = search needs
+abbrev μ-loop : tie.MeasureT-loop
+μ-loop set₀ k₀ set k = 4 - k
 
-returns : tie.Need-returns
-returns c = search needs
+-- src/sets.rt:50:5
+loop-holds : tie.Need-loop-holds Inv-loop μ-loop
+loop-holds c = passed-first
 
-element-copy-out-d1 : tie.Need-element-copy-out-d1
-element-copy-out-d1 c = search needs
+-- src/sets.rt:51:17
+mul-d : tie.Need-mul-d Inv-loop μ-loop
+mul-d c = search needs
 
-pick-in-requires-2 : tie.Need-pick-in-requires-2
-pick-in-requires-2 c κs = search needs
+-- src/sets.rt:51:17
+element-copy-out-d : tie.Need-element-copy-out-d Inv-loop μ-loop
+element-copy-out-d c = search needs
 
-returns-2 : tie.Need-returns-2
-returns-2 c = search needs
+-- src/sets.rt:53:13
+pick-in-requires : tie.Need-pick-in-requires Inv-loop μ-loop
+pick-in-requires c κs = let at = c .before .before .before .before in (passed-long (at .loop .inv) (at .before .pre), (omega arith, omega arith, refl))
 
-element-copy-out-d2 : tie.Need-element-copy-out-d2
-element-copy-out-d2 c = search needs
+-- src/sets.rt:53:13
+returns : tie.Need-returns Inv-loop μ-loop
+returns c = let at = c .before .before .before .before .before in passed-pick (at .loop .inv) (c .pick-in .ensures)
 
-pick-in-requires-3 : tie.Need-pick-in-requires-3
-pick-in-requires-3 c κs = search needs
+-- src/sets.rt:55:9
+add-k : tie.Need-add-k Inv-loop μ-loop
+add-k c = search needs
 
-returns-3 : tie.Need-returns-3
-returns-3 c = search needs
+-- src/sets.rt:50:5
+loop-less : tie.Need-loop-less Inv-loop μ-loop
+loop-less c = search needs
 
-element-copy-out-d3 : tie.Need-element-copy-out-d3
-element-copy-out-d3 c = search needs
+-- src/sets.rt:50:5
+loop-again : tie.Need-loop-again Inv-loop μ-loop
+loop-again c = let at = c .before .before .before in passed-next (at .loop .inv) (omega arith) (c .if1 .left)
 
-pick-in-requires-4 : tie.Need-pick-in-requires-4
-pick-in-requires-4 c κs = search needs
-
-returns-4 : tie.Need-returns-4
-returns-4 c = search needs
-
-returns-5 : tie.Need-returns-5
-returns-5 c = picked-none _ (c .before .before .before .before .before .before .before .before .pre) (c .before .before .before .before .before .before .if1 .left) (c .before .before .before .before .if2 .left) (c .before .before .if3 .left) (c .if4 .left)
+-- src/sets.rt:45:1
+returns-2 : tie.Need-returns-2 Inv-loop μ-loop
+returns-2 c = let at = c .before in passed-all (at .loop .inv) (omega arith) (at .before .pre)
 
 pub pick-spec : {M : Type 1} → statement M
 pick-spec =
     tie.close
     (tie.spec
-    element-copy-out-d0
+    Inv-loop
+    μ-loop
+    loop-holds
+    mul-d
+    element-copy-out-d
     pick-in-requires
     returns
-    element-copy-out-d1
-    pick-in-requires-2
-    returns-2
-    element-copy-out-d2
-    pick-in-requires-3
-    returns-3
-    element-copy-out-d3
-    pick-in-requires-4
-    returns-4
-    returns-5)
+    add-k
+    loop-less
+    loop-again
+    returns-2)

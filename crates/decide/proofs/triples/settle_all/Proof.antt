@@ -10,10 +10,10 @@ use Rattle.decide.proofs.sets.pick.Reads as pick-reads
 use Rattle.decide.proofs.triples.settle.Reads as settle-reads
 
 abbrev Inv-loop : tie.InvT-loop
-Inv-loop size k sy tg by e₀ triples₀ left₀ changed₀ e triples left changed = Left size k left₀ sy tg by e₀ triples₀ left changed e triples
+Inv-loop size k tg by e₀ triples₀ left₀ changed₀ e triples left changed = Left size k left₀ tg by e₀ triples₀ left changed e triples
 
 abbrev μ-loop : tie.MeasureT-loop
-μ-loop size k sy tg by e₀ triples₀ left₀ changed₀ e triples left changed = weight left
+μ-loop size k tg by e₀ triples₀ left₀ changed₀ e triples left changed = weight left
 
 -- src/triples.rt:153:5
 loop-holds : tie.Need-loop-holds Inv-loop μ-loop
