@@ -181,17 +181,17 @@ module _ (rs : List ℕ) where
   sorted-all n k {us} {w} e = subst (λ n. RulesSorted rs n us w) e
 
 -- the final states
-module _ (fs : List Bool) where
+module _ (final : ℕ → Bool) where
   abbrev pub FinalsTo : (n r : ℕ) → Type 0
-  FinalsTo n r = (x : ℕ) → bit r x ≡ ltb x n && getD fs x false
+  FinalsTo n r = (x : ℕ) → bit r x ≡ ltb x n && final x
 
   pub finals-none : FinalsTo 0 0
-  finals-none x = bit-zero x ∙ sym (ap (λ b. b && getD fs x false) (le-ltb x 0 (omega arith)))
+  finals-none x = bit-zero x ∙ sym (ap (λ b. b && final x) (le-ltb x 0 (omega arith)))
 
-  pub finals-more : (n r m : ℕ) → FinalsTo n r → m ≡ cond (getD fs n false) (2 ^ n) 0 → FinalsTo (n + 1) (bitOr r m)
-  finals-more n r m a e x = bit-or r m x ∙ ap₂ _||_ (a x) (ap (λ m. bit m x) e ∙ one (getD fs n false) refl) ∙ at (ℕ-discrete n x)
+  pub finals-more : (n r m : ℕ) → FinalsTo n r → m ≡ cond (final n) (2 ^ n) 0 → FinalsTo (n + 1) (bitOr r m)
+  finals-more n r m a e x = bit-or r m x ∙ ap₂ _||_ (a x) (ap (λ m. bit m x) e ∙ one (final n) refl) ∙ at (ℕ-discrete n x)
     where
-      one : (b : Bool) → getD fs n false ≡ b → bit (cond b (2 ^ n) 0) x ≡ eqb n x && b
+      one : (b : Bool) → final n ≡ b → bit (cond b (2 ^ n) 0) x ≡ eqb n x && b
       one true y = bit-pow n x ∙ and-on (eqb n x)
         where
           and-on : (a : Bool) → a ≡ a && true
@@ -203,18 +203,18 @@ module _ (fs : List Bool) where
           and-off true = refl
           and-off false = refl
 
-      at : Dec (n ≡ x) → (ltb x n && getD fs x false) || (eqb n x && getD fs n false) ≡ ltb x (n + 1) && getD fs x false
+      at : Dec (n ≡ x) → (ltb x n && final x) || (eqb n x && final n) ≡ ltb x (n + 1) && final x
       at (yes e) =
-          subst (λ x. (ltb x n && getD fs x false) || (eqb n x && getD fs n false) ≡ ltb x (n + 1) && getD fs x false) e
+          subst (λ x. (ltb x n && final x) || (eqb n x && final n) ≡ ltb x (n + 1) && final x) e
           (rw (le-ltb n n (omega arith), eq-eqb n n refl, lt-ltb n (n + 1) (omega arith)))
       at (no e) = go (decLt x n)
         where
-          go : Dec (x < n) → (ltb x n && getD fs x false) || (eqb n x && getD fs n false) ≡ ltb x (n + 1) && getD fs x false
-          go (yes h) = rw (ne-eqb n x e, lt-ltb x n h, lt-ltb x (n + 1) (omega arith)) (sym (or-false (getD fs x false)))
+          go : Dec (x < n) → (ltb x n && final x) || (eqb n x && final n) ≡ ltb x (n + 1) && final x
+          go (yes h) = rw (ne-eqb n x e, lt-ltb x n h, lt-ltb x (n + 1) (omega arith)) (sym (or-false (final x)))
           go (no h) = rw (ne-eqb n x e, le-ltb x n (omega arith), le-ltb x (n + 1) (omega arith))
 
   pub finals-all : (n k r : ℕ) → n ≡ k → FinalsTo n r → FinalsTo k r
   finals-all n k r e = subst (λ n. FinalsTo n r) e
 
-pub final-bit : (fs : List Bool) (q : ℕ) → q < 8 → getD fs q false ≡ true → (1 * 2 ^ q) % 2 ^ 64 ≡ cond (getD fs q false) (2 ^ q) 0
-final-bit fs q l e = rw e (one-shifted 64 q (omega arith))
+pub final-bit : (final : ℕ → Bool) (q : ℕ) → q < 8 → final q ≡ true → (1 * 2 ^ q) % 2 ^ 64 ≡ cond (final q) (2 ^ q) 0
+final-bit final q l e = rw e (one-shifted 64 q (omega arith))

@@ -15,7 +15,10 @@ use lib.Seq.{getD-set-same, getD-set-other}
 use Rattle.product.proofs.Lists.{and-left, and-right, or-cases, T-true}
 use Rattle.table.specs.declared.Size.{Size}
 use Rattle.bits.specs.Bit.{bit}
+use Rattle.lent.specs.Lending.{modelIn}
+use Rattle.lent.proofs.Parts.{in-part}
 use Rattle.steps.specs.Steps.{classOf, symbolOf, statesAfter}
+use Rattle.steps.proofs.Built.{class-row}
 use Rattle.bits.specs.Matrix.{mat, mats, some, passed, image}
 use Rattle.bits.proofs.Bit.{bit-or, bit-zero}
 use Rattle.bits.proofs.Set.{bit-pow, one-shifted}
@@ -89,11 +92,12 @@ shows-alike m m′ {a} k s = record {
 }
 
 -- the class of a row
-pub class-at : (rs : List ℕ) (i : ℕ) → i < 256 → classOf rs i ≡ classAt rs i
-unfolding classOf
-class-at rs i h = rw (lt-ltb i 256 h) (ap (λ n. getD rs (n + 1) 0) (mul-comm i 4))
+-- a class read where the rules of a lent model lie
+pub class-at : (rs : List ℕ) (i : ℕ) → i < 256 → classOf (modelIn rs) i ≡ classAt rs i
+unfolding modelIn
+class-at rs i h = sym (class-row (modelIn rs) i h (in-part rs 0 1024 (i * 4 + 1) (4 * i + 1) (omega arith) (omega arith)))
 
-pub land-is : (rs tg hd : List ℕ) (i c g v : ℕ) → i < 256 → c ≡ classOf rs i → g ≡ symbolOf c → v ≡ statesAfter rs tg i (getD hd g 0) → v ≡ landing tg hd (classAt rs i)
+pub land-is : (rs tg hd : List ℕ) (i c g v : ℕ) → i < 256 → c ≡ classOf (modelIn rs) i → g ≡ symbolOf c → v ≡ statesAfter (modelIn rs) tg i (getD hd g 0) → v ≡ landing tg hd (classAt rs i)
 unfolding landing statesAfter
 land-is rs tg hd i c g v h c-is g-is v-is =
     v-is ∙ ap₂ (λ g c. image (getD hd g 0) (getD tg c 0)) (g-is ∙ ap symbolOf (c-is ∙ class-at rs i h)) (class-at rs i h)

@@ -50,7 +50,7 @@ use Rattle.decide.proofs.Gathered.{mat-none}
 use Rattle.decide.proofs.Emptied.{zeros-at}
 use Rattle.decide.proofs.Choosing.{no-member, off, collected-cases, collected-new}
 use Rattle.decide.proofs.Tested.{shape}
-use Rattle.decide.proofs.Framed.{row-is, model-frame}
+use Rattle.decide.proofs.Framed.{SameRows, row-lent, model-frame}
 
 -- a set of one
 pub one-bit : (g : ℕ) → g < 32 → (x : ℕ) → bit ((1 * 2 ^ g) % 2 ^ 64) x ≡ eqb g x
@@ -59,7 +59,7 @@ one-bit g l x = ap (λ n. bit n x) (one-shifted 64 g (omega arith)) ∙ bit-pow 
 pub one-low : (g : ℕ) → g < 32 → (x : ℕ) → T (bit ((1 * 2 ^ g) % 2 ^ 64) x) → x < 32
 one-low g l x t = subst (λ n. n < 32) (eqb→eq g x (subst T (one-bit g l x) t)) l
 
-module _ (m : Model) (v : T (valid m)) where
+module _ (m : Model) (v : T (valid m)) {rs : List ℕ} (same : SameRows rs (m .rulerows)) where
   abbrev z : Size
   z = record { symbols = m .symbols; states = m .states }
 
@@ -70,7 +70,7 @@ module _ (m : Model) (v : T (valid m)) where
   g-in = omega (arith, start-symbol-in m v, valid-sizes m v .symbols)
 
   -- what is looked for
-  module _ {goal : Goal} (of : GoalOf (shape m) (m .finals) goal) where
+  module _ {goal : Goal} (of : GoalOf (shape m) (productOf m .final) goal) where
     pub state-in : goal .state < 8
     state-in = omega (arith, of .state-is, q-in)
 
@@ -79,20 +79,20 @@ module _ (m : Model) (v : T (valid m)) where
 
     goals : Goals (productOf m) goal
     goals = record {
-      low = λ x t. ltb→lt x 8 (and-left (ltb x 8) (getD (m .finals) x false) (subst T (of .finals-are x) t));
-      is = λ x t. and-right (ltb x 8) (getD (m .finals) x false) (subst T (of .finals-are x) t);
-      all = λ x l t. subst⁻¹ T (of .finals-are x) (both (ltb x 8) (getD (m .finals) x false) (subst⁻¹ T (lt-ltb x 8 l) tt) t);
+      low = λ x t. ltb→lt x 8 (and-left (ltb x 8) (productOf m .final x) (subst T (of .finals-are x) t));
+      is = λ x t. and-right (ltb x 8) (productOf m .final x) (subst T (of .finals-are x) t);
+      all = λ x l t. subst⁻¹ T (of .finals-are x) (both (ltb x 8) (productOf m .final x) (subst⁻¹ T (lt-ltb x 8 l) tt) t);
       state-is = of .state-is;
       symbol-is = of .symbol-is;
     }
 
     -- the rules by what they need, and those of the first round
-    module _ {us : List ℕ} {t : Next} (f : First (m .rulerows) (m .rules) (goal .symbol) us t) where
+    module _ {us : List ℕ} {t : Next} (f : First rs (m .rules) (goal .symbol) us t) where
       changed-bit : (x : ℕ) → bit (t .changed) x ≡ eqb (goal .symbol) x
       changed-bit x = ap (λ d. bit d x) (f .changed-is) ∙ one-bit (goal .symbol) symbol-in x
 
       uses-are : Uses (productOf m) us
-      uses-are = record { there = λ r l. subst⁻¹ (UsesOf us r) (row-is m v r l) (f .uses .there r l); only = f .uses .only }
+      uses-are = record { there = λ r l. subst⁻¹ (UsesOf us r) (row-lent m v same r l) (f .uses .there r l); only = f .uses .only }
 
       no-exit : (k g₀ g1 g2 : ℕ) → eqb k 0 ≡ false → FirstT (ruleBy k g₀ g1 g2)
       no-exit zero g₀ g1 g2 x = absurd (subst T x tt)
@@ -101,9 +101,9 @@ module _ (m : Model) (v : T (valid m)) where
 
       first-t : (r : ℕ) → r < m .rules → chosen (t .wt) r ≡ false → FirstT (rule m r)
       first-t r l x =
-          subst⁻¹ FirstT (row-is m v r l)
-          (no-exit (kindAt (m .rulerows) r) (symbolOf (classAt (m .rulerows) r)) (overAt (m .rulerows) r) (underAt (m .rulerows) r)
-          (sym (ap (λ b. b && eqb (kindAt (m .rulerows) r) 0) (lt-ltb r (m .rules) l)) ∙ sym (f .exits .is r) ∙ x))
+          subst⁻¹ FirstT (row-lent m v same r l)
+          (no-exit (kindAt rs r) (symbolOf (classAt rs r)) (overAt rs r) (underAt rs r)
+          (sym (ap (λ b. b && eqb (kindAt rs r) 0) (lt-ltb r (m .rules) l)) ∙ sym (f .exits .is r) ∙ x))
 
       not-start : (r g₀ : ℕ) → r < m .rules → chosen (t .wh) r ≡ false → T (member us (64 + g₀) r) → m .startsymbol ≡ g₀ → ⊥
       not-start r g₀ l x u e =
@@ -119,7 +119,7 @@ module _ (m : Model) (v : T (valid m)) where
       sets-first = record {
         triples-long = f .exits .long;
         heads-long = f .heads .long;
-        triples-only = λ r u. ltb→lt r (m .rules) (and-left (ltb r (m .rules)) (eqb (kindAt (m .rulerows) r) 0) (subst T (f .exits .is r) u));
+        triples-only = λ r u. ltb→lt r (m .rules) (and-left (ltb r (m .rules)) (eqb (kindAt rs r) 0) (subst T (f .exits .is r) u));
         heads-only = λ r u. ⊎-elim (λ b. absurd (no-member r b)) (λ (s, h, b). f .uses .only s r h b) (collected-cases (f .heads) r u);
         enough = enough-first (productOf m) (product-in m v) (chosen (t .wt)) (chosen (t .wh))
             record { triples = first-t; heads = λ r l x. first-h r l x (rule m r) (uses-are .there r l) };
@@ -193,7 +193,7 @@ module _ (m : Model) (v : T (valid m)) where
       heads-room = record { few = valid-sizes m v .symbols; matrices = length-set (zeros 32) (m .startsymbol) ((1 * 2 ^ m .startstate) % 2 ^ 64); long = omega (arith, heads-as-long, able .heads-long) };
     }
 
-    nothing-stored : {tg : List ℕ} → Stored (productOf m) 0 (m .rulerows) tg (zeros 256)
+    nothing-stored : {tg : List ℕ} → Stored (productOf m) 0 rs tg (zeros 256)
     nothing-stored = record {
       long = refl;
       sound = λ c k x t. absurd (subst T (mat-none (getD (zeros 256) c 0) k x (zeros-at 256 c)) t);
@@ -201,19 +201,19 @@ module _ (m : Model) (v : T (valid m)) where
     }
 
   -- THE START, of a goal, of the rules of the first round and of the arrays of round 0
-  module _ {hs ts hs′ ts′ : List ℕ} {goal : Goal} {us tg : List ℕ} {t : Next} (able : Able m hs ts) (of : GoalOf (shape m) (m .finals) goal)
-      (st : Started z (goal .state) (goal .symbol) hs ts hs′ ts′) (f : First (m .rulerows) (m .rules) (goal .symbol) us t)
-      (tg-is : tg ≡ classSteps (m .moverows) (m .shows) (m .moves) (m .symbols)) where
+  module _ {hs ts hs′ ts′ : List ℕ} {goal : Goal} {us tg : List ℕ} {t : Next} (able : Able m hs ts) (of : GoalOf (shape m) (productOf m .final) goal)
+      (st : Started z (goal .state) (goal .symbol) hs ts hs′ ts′) (f : First rs (m .rules) (goal .symbol) us t)
+      (tg-is : tg ≡ classSteps m) where
     st′ : Started z (m .startstate) (m .startsymbol) hs ts hs′ ts′
     st′ = subst (λ q. Started z q (m .startsymbol) hs ts hs′ ts′) (of .state-is) (subst (λ g. Started z (goal .state) g hs ts hs′ ts′) (of .symbol-is) st)
 
     rows-are : set (zeros 32) (m .startsymbol) ((1 * 2 ^ m .startstate) % 2 ^ 64) ≡ startRows goal
     rows-are = ap₂ (λ g q. set (zeros 32) g ((1 * 2 ^ q) % 2 ^ 64)) (sym (of .symbol-is)) (sym (of .state-is))
 
-    starts : Starts (productOf m) z goal t (m .rulerows) tg us hs′ ts′
+    starts : Starts (productOf m) z goal t rs tg us hs′ ts′
     starts = record {
       begins = record {
-        arrays = record { in-range = product-in m v; frame = model-frame m v tg-is; symbols-are = refl };
+        arrays = record { in-range = product-in m v; frame = model-frame m v same tg-is; symbols-are = refl };
         sets = sets-first of f;
         stored = nothing-stored able st′;
         standing = subst (λ hd. Standing (productOf m) z 0 (zeros 32) hd hs′ ts′) rows-are (standing-first able st′);
@@ -224,10 +224,10 @@ module _ (m : Model) (v : T (valid m)) where
       changed-is = changed-bit of f;
     }
 
-    pub driving : Driving z goal t (m .rulerows) tg us hs′ ts′
+    pub driving : Driving z goal t rs tg us hs′ ts′
     driving = record { product = productOf m; starts = starts }
 
-    module _ {budget : ℕ} {r : Decision} {hs″ ts″ : List ℕ} (d : Driven z goal t (m .rulerows) tg us hs′ ts′ budget r hs″ ts″) where
+    module _ {budget : ℕ} {r : Decision} {hs″ ts″ : List ℕ} (d : Driven z goal t rs tg us hs′ ts′ budget r hs″ ts″) where
       b : Answers (productOf m) z hs′ ts′ budget r hs″ ts″
       b = d .answers (productOf m) starts
 

@@ -54,7 +54,7 @@ pub record First (rs : List ℕ) (n g : ℕ) (us : List ℕ) (t : Next) : Type 0
   pub heads : Collected us 64 (t .changed) (zeros 4) (t .wh)
 
 -- the final states, and the start
-pub record GoalOf (s : Shape) (finals : List Bool) (goal : Goal) : Type 0 where
-  pub finals-are : (x : ℕ) → bit (goal .finals) x ≡ ltb x 8 && getD finals x false
+pub record GoalOf (s : Shape) (final : ℕ → Bool) (goal : Goal) : Type 0 where
+  pub finals-are : (x : ℕ) → bit (goal .finals) x ≡ ltb x 8 && final x
   pub state-is : goal .state ≡ s .startstate
   pub symbol-is : goal .symbol ≡ s .startsymbol

@@ -1,10 +1,11 @@
 // What the rounds are run on, from a model: which rules need which symbol, the rules of the first round, and the final states.
-ghost use mathlib.Core.Bool.{Bool, false, cond, _&&_};
+ghost use mathlib.Core.Bool.{cond, _&&_};
 ghost use mathlib.Core.Path.{_≡_};
 ghost use Prim.Native.Nat.{ℕ, _<_, _≤_, _^_};
 ghost use lib.Dec.{ltb};
-ghost use lib.ListN.{length, getD};
+ghost use lib.ListN.{length};
 ghost use Rattle.bits.specs.Bit.{bit};
+ghost use Rattle.lent.specs.Lending.{productIn};
 ghost use Rattle.decide.specs.Build.{RulePut, RulesSorted, First, GoalOf};
 ghost use Rattle.decide.specs.Gather.{Empty};
 use crate::Goal;
@@ -13,10 +14,11 @@ use crate::rows::row_at;
 use crate::sets::add;
 use crate::sets::collect;
 use crate::sets::put;
+use lent::Lent;
 use model::Shape;
 
 // Puts rule r into the sets of the symbols whose triples or heads it needs. An exit needs none, and is put among the exits.
-fn sort_rule(rules: &[u8; 1024], r: usize, us: &mut [u64; 384], exits: &mut [u64; 4])
+fn sort_rule(rules: &Lent, r: usize, us: &mut [u64; 384], exits: &mut [u64; 4])
     requires { ⌜ r < 256 ⌝ }
     requires { ⌜ length (now us) ≡ 384 ⌝ }
     requires { ⌜ length (now exits) ≡ 4 ⌝ }
@@ -37,7 +39,7 @@ fn sort_rule(rules: &[u8; 1024], r: usize, us: &mut [u64; 384], exits: &mut [u64
 }
 
 // The sets of rules by what they need, and the exits, which give triples in the first round. The sets are filled where they lie: they are large.
-fn sort_rules(rules: &[u8; 1024], count: usize, us: &mut [u64; 384], exits: &mut [u64; 4])
+fn sort_rules(rules: &Lent, count: usize, us: &mut [u64; 384], exits: &mut [u64; 4])
     requires { ⌜ count ≤ 256 ⌝ }
     requires { ⌜ Empty 384 (now us) ⌝ }
     requires { ⌜ Empty 4 (now exits) ⌝ }
@@ -51,7 +53,7 @@ fn sort_rules(rules: &[u8; 1024], count: usize, us: &mut [u64; 384], exits: &mut
 }
 
 // The rules of the first round, of the rules sorted into `us`: the exits, and those that need the head of the start symbol g.
-pub(crate) fn first_rules(rules: &[u8; 1024], count: usize, g: usize, us: &mut [u64; 384]) -> Next
+pub(crate) fn first_rules(rules: &Lent, count: usize, g: usize, us: &mut [u64; 384]) -> Next
     requires { ⌜ count ≤ 256 ⌝ }
     requires { ⌜ g < 32 ⌝ }
     requires { ⌜ Empty 384 (now us) ⌝ }
@@ -70,35 +72,35 @@ pub(crate) fn first_rules(rules: &[u8; 1024], count: usize, g: usize, us: &mut [
 }
 
 // State q as a set, if it is final.
-fn if_final(finals: &[bool; 8], q: usize) -> u64
+fn if_final(m: &Lent, q: usize) -> u64
     requires { ⌜ q < 8 ⌝ }
-    ensures { λ r. ⌜ r ≡ cond (getD (now (finals .entry)) q false) (2 ^ q) 0 ⌝ }
+    ensures { λ r. ⌜ r ≡ cond (productIn (now (m .entry)) .final q) (2 ^ q) 0 ⌝ }
 {
-    if finals[q] {
+    if lent::is_final(m, q) {
         return 1u64 << (q as u64);
     }
     0
 }
 
 // The final states.
-fn final_states(finals: &[bool; 8]) -> u64
-    ensures { λ r. ⌜ ((x : ℕ) → bit r x ≡ ltb x 8 && getD (now (finals .entry)) x false) ⌝ }
+fn final_states(m: &Lent) -> u64
+    ensures { λ r. ⌜ ((x : ℕ) → bit r x ≡ ltb x 8 && productIn (now (m .entry)) .final x) ⌝ }
 {
     let mut r: u64 = 0;
     let mut q: usize = 0;
     while q < 8 {
-        r = r | if_final(finals, q);
+        r = r | if_final(m, q);
         q += 1;
     }
     r
 }
 
 // What is looked for in a model: its final states, from its start.
-pub(crate) fn goal_of(shape: Shape, finals: &[bool; 8]) -> Goal
-    ensures { λ goal. ⌜ GoalOf shape (now (finals .entry)) goal ⌝ }
+pub(crate) fn goal_of(shape: Shape, m: &Lent) -> Goal
+    ensures { λ goal. ⌜ GoalOf shape (productIn (now (m .entry)) .final) goal ⌝ }
 {
     Goal {
-        finals: final_states(finals),
+        finals: final_states(m),
         state: shape.startstate as usize,
         symbol: shape.startsymbol as usize,
     }

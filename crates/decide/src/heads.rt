@@ -13,10 +13,11 @@ use crate::rows::row_at;
 use crate::sets::gain;
 use crate::sets::pick;
 use crate::stamps::stamp_heads;
+use lent::Lent;
 use table::Size;
 
 // The states in which the steps of rule i end, from the heads of its symbol.
-fn land(i: usize, rules: &[u8; 1024], tg: &[u64; 256], hd: &[u64; 32]) -> u64
+fn land(i: usize, rules: &Lent, tg: &[u64; 256], hd: &[u64; 32]) -> u64
     requires { ⌜ i < 256 ⌝ }
     ensures { λ v. ⌜ v ≡ landing (now (tg .entry)) (now (hd .entry)) (classAt (now (rules .entry)) i) ⌝ }
 {
@@ -38,7 +39,7 @@ fn add_row(g: usize, v: u64, nh: &mut [u64; 32]) -> u64
 // Rule i adds the heads that it gives. Answers the set of the symbols whose row it wrote.
 fn show(
     i: usize,
-    rules: &[u8; 1024],
+    rules: &Lent,
     tg: &[u64; 256],
     e: &[u64; 32],
     hd: &[u64; 32],
@@ -71,7 +72,7 @@ fn show(
 // The rules of a set.
 fn show_all(
     set: [u64; 4],
-    rules: &[u8; 1024],
+    rules: &Lent,
     tg: &[u64; 256],
     e: &[u64; 32],
     hd: &[u64; 32],
@@ -136,7 +137,7 @@ pub(crate) fn round_heads(
     size: Size,
     k: u16,
     set: [u64; 4],
-    rules: &[u8; 1024],
+    rules: &Lent,
     tg: &[u64; 256],
     e: &[u64; 32],
     nh: &mut [u64; 32],

@@ -1,11 +1,11 @@
 // The decision: rounds over the two lent arrays until a violating fact is held, a round adds nothing, or the budget is spent.
 ghost use mathlib.Core.Path.{_≡_};
+ghost use Rattle.lent.specs.Lending.{shapeIn, ofLent, modelIn};
 ghost use Rattle.decide.specs.Decided.{Decided};
-ghost use Rattle.model.specs.Valid.{ofParts};
 ghost use Rattle.decide.specs.Ran.{Able, Started, Ran};
 use crate::build::first_rules;
 use crate::build::goal_of;
-use model::Model;
+use lent::Lent;
 use model::Shape;
 use table::Size;
 
@@ -51,34 +51,26 @@ fn start(heads: &mut [u16], triples: &mut [u16], size: Size, q: usize, g: usize)
     table::put_head(heads, size, q, g, 0);
 }
 
-// The rounds of a valid model, which is lent in parts, in arrays that are long enough.
-fn run<'a>(
-    shape: Shape,
-    rulerows: &'a [u8; 1024],
-    moverows: &'a [u8; 384],
-    shows: &'a [bool; 512],
-    finals: &'a [bool; 8],
-    budget: u32,
-    heads: &mut [u16],
-    triples: &mut [u16],
-) -> Decision
-    requires { ⌜ Able (ofParts shape (now rulerows) (now moverows) (now shows) (now finals)) (now heads) (now triples) ⌝ }
-    ensures { λ r. ⌜ Ran (ofParts shape (now (rulerows .entry)) (now (moverows .entry)) (now (shows .entry)) (now (finals .entry))) budget (now (heads .entry)) (now (triples .entry)) r (now (heads .exit)) (now (triples .exit)) ⌝ }
+// The rounds of a valid model, whose shape was asked for, in arrays that are long enough.
+fn run(shape: Shape, m: &Lent, budget: u32, heads: &mut [u16], triples: &mut [u16]) -> Decision
+    requires { ⌜ shape ≡ shapeIn (now m) ⌝ }
+    requires { ⌜ Able (ofLent shape (now m)) (now heads) (now triples) ⌝ }
+    ensures { λ r. ⌜ Ran (ofLent shape (now (m .entry))) budget (now (heads .entry)) (now (triples .entry)) r (now (heads .exit)) (now (triples .exit)) ⌝ }
 {
     let size = Size {
         symbols: shape.symbols,
         states: shape.states,
     };
-    let goal = goal_of(shape, finals);
+    let goal = goal_of(shape, m);
     start(heads, triples, size, goal.state, goal.symbol);
-    let tg = steps::class_steps(moverows, shows, shape.moves, shape.symbols as usize);
+    let tg = steps::class_steps(m);
     let mut us = [0u64; 384];
-    let first = first_rules(rulerows, shape.rules, goal.symbol, &mut us);
+    let first = first_rules(m, shape.rules, goal.symbol, &mut us);
     rounds::run(
         size,
         goal,
         first,
-        rulerows,
+        m,
         &tg,
         &us,
         heads,
@@ -87,22 +79,14 @@ fn run<'a>(
     )
 }
 
-// Decides a model that is lent in parts.
-fn decide_parts<'a>(
-    shape: Shape,
-    rulerows: &'a [u8; 1024],
-    moverows: &'a [u8; 384],
-    shows: &'a [bool; 512],
-    finals: &'a [bool; 8],
-    budget: u32,
-    heads: &mut [u16],
-    triples: &mut [u16],
-) -> Decision
-    ensures { λ r. ⌜ Decided (ofParts shape (now (rulerows .entry)) (now (moverows .entry)) (now (shows .entry)) (now (finals .entry))) budget (now (heads .entry)) (now (triples .entry)) r (now (heads .exit)) (now (triples .exit)) ⌝ }
+// Decides a model within a budget of rounds, and leaves in the arrays the ranks of the facts held. Nothing is written on 6 and 7.
+pub fn decide(m: &Lent, budget: u32, heads: &mut [u16], triples: &mut [u16]) -> Decision
+    ensures { λ r. ⌜ Decided (modelIn (now (m .entry))) budget (now (heads .entry)) (now (triples .entry)) r (now (heads .exit)) (now (triples .exit)) ⌝ }
 {
-    if !model::parts_valid(shape, rulerows, moverows) {
+    if !lent::is_valid(m) {
         return Decision::Invalid;
     }
+    let shape = lent::shape(m);
     let size = Size {
         symbols: shape.symbols,
         states: shape.states,
@@ -110,39 +94,5 @@ fn decide_parts<'a>(
     if !table::long_enough(heads, triples, size) {
         return Decision::Short;
     }
-    run(
-        shape,
-        rulerows,
-        moverows,
-        shows,
-        finals,
-        budget,
-        heads,
-        triples,
-    )
-}
-
-// Decides a model within a budget of rounds, and leaves in the arrays the ranks of the facts held. Nothing is written on 6 and 7.
-pub fn decide(m: Model, budget: u32, heads: &mut [u16], triples: &mut [u16]) -> Decision
-    ensures { λ r. ⌜ Decided m budget (now (heads .entry)) (now (triples .entry)) r (now (heads .exit)) (now (triples .exit)) ⌝ }
-{
-    let shape = Shape {
-        symbols: m.symbols,
-        states: m.states,
-        events: m.events,
-        startstate: m.startstate,
-        startsymbol: m.startsymbol,
-        rules: m.rules,
-        moves: m.moves,
-    };
-    decide_parts(
-        shape,
-        &m.rulerows,
-        &m.moverows,
-        &m.shows,
-        &m.finals,
-        budget,
-        heads,
-        triples,
-    )
+    run(shape, m, budget, heads, triples)
 }

@@ -12,6 +12,7 @@ use crate::Next;
 use crate::heads::round_heads;
 use crate::sets::collect;
 use crate::triples::round_triples;
+use lent::Lent;
 use table::Size;
 
 // What the tests after a round say.
@@ -92,7 +93,7 @@ pub(crate) fn run(
     size: Size,
     goal: Goal,
     first: Next,
-    rules: &[u8; 1024],
+    rules: &Lent,
     tg: &[u64; 256],
     us: &[u64; 384],
     heads: &mut [u16],

@@ -2,6 +2,7 @@
 ghost use mathlib.Core.Path.{_≡_};
 ghost use Prim.Native.Nat.{_%_, _<_};
 ghost use Rattle.decide.specs.Gather.{RowAt};
+use lent::Lent;
 
 // A rule by its numbers: its kind, its class, the symbol that it puts on top, and the one under that.
 pub(crate) struct Row {
@@ -28,7 +29,7 @@ fn low(x: u8) -> usize
 }
 
 // Rule i.
-pub(crate) fn row_at(rules: &[u8; 1024], i: usize) -> Row
+pub(crate) fn row_at(rules: &Lent, i: usize) -> Row
     requires { ⌜ i < 256 ⌝ }
     ensures { λ r. ⌜ RowAt (now (rules .entry)) i r ⌝ }
 {

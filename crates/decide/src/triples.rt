@@ -13,6 +13,7 @@ use crate::sets::add;
 use crate::sets::gain;
 use crate::sets::pick;
 use crate::stamps::stamp;
+use lent::Lent;
 use table::Size;
 
 // The product of two matrices; where one is empty, none is needed.
@@ -47,7 +48,7 @@ fn rest(row: Row, e: &[u64; 32]) -> u64
 }
 
 // Rule i adds what is run after its step to the matrix of its class. A class that has more by it is noted in the set.
-fn visit(i: usize, rules: &[u8; 1024], e: &[u64; 32], by: &mut [u64; 256], touched: &mut [u64; 4])
+fn visit(i: usize, rules: &Lent, e: &[u64; 32], by: &mut [u64; 256], touched: &mut [u64; 4])
     requires { ⌜ i < 256 ⌝ }
     requires { ⌜ length (now touched) ≡ 4 ⌝ }
     requires { ⌜ length (now by) ≡ 256 ⌝ }
@@ -66,7 +67,7 @@ fn visit(i: usize, rules: &[u8; 1024], e: &[u64; 32], by: &mut [u64; 256], touch
 }
 
 // The rules of a set. Answers the set of the classes that have more than before.
-fn gather(set: [u64; 4], rules: &[u8; 1024], e: &[u64; 32], by: &mut [u64; 256]) -> [u64; 4]
+fn gather(set: [u64; 4], rules: &Lent, e: &[u64; 32], by: &mut [u64; 256]) -> [u64; 4]
     requires { ⌜ length set ≡ 4 ⌝ }
     requires { ⌜ length (now by) ≡ 256 ⌝ }
     ensures { λ t. ⌜ Gains (addedBy (now (rules .entry)) (now (e .entry)) set) (now (by .entry)) t (now (by .exit)) ⌝ }
@@ -139,7 +140,7 @@ pub(crate) fn round_triples(
     size: Size,
     k: u16,
     set: [u64; 4],
-    rules: &[u8; 1024],
+    rules: &Lent,
     tg: &[u64; 256],
     by: &mut [u64; 256],
     e: &mut [u64; 32],

@@ -53,9 +53,12 @@ rowIn cells r = record {
   under = inRow 4 (part 0 1024 cells) r 3;
 }
 
--- the record that the bytes are
+-- the record of a shape and the bytes' rules, moves and truths; and the record that the bytes are
+abbrev pub ofLent : Shape → List ℕ → Model
+ofLent s cells = ofParts s (part 0 1024 cells) (part 1024 384 cells) (truths (part 1408 512 cells)) (truths (part 1920 8 cells))
+
 unfoldable pub modelIn : List ℕ → Model
-modelIn cells = ofParts (shapeIn cells) (part 0 1024 cells) (part 1024 384 cells) (truths (part 1408 512 cells)) (truths (part 1920 8 cells))
+modelIn cells = ofLent (shapeIn cells) cells
 
 -- and its product
 abbrev pub productIn : List ℕ → Product

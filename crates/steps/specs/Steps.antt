@@ -20,10 +20,6 @@ classOf m r = cond (ltb r 256) (symbol (rule m r)) 0
 unfoldable pub symbolOf : ℕ → ℕ
 symbolOf c = c % 32
 
--- the symbol of class c, below 32: with one location a class is its symbol
-unfoldable pub symbolOf : ℕ → ℕ
-symbolOf c = c % 32
-
 -- a matrix by its entries
 abbrev pub matrix : (ℕ → ℕ → Bool) → ℕ
 matrix a = word 64 (λ i. a (i / 8) (i % 8))

@@ -145,7 +145,7 @@ pub fn symbol_of(class: usize) -> usize
 }
 
 // The states to which rule r can step from those in `from`.
-pub fn states_after<'a>(m: &'a Lent, tg: &'a [u64; 256], r: usize, from: u64) -> u64
+pub fn states_after(m: &Lent, tg: &[u64; 256], r: usize, from: u64) -> u64
     ensures { λ x. ⌜ x ≡ statesAfter (modelIn (now (m .entry))) (now (tg .entry)) r from ⌝ }
 {
     let c = class_of(m, r);
