@@ -13,13 +13,10 @@ use Rattle.model.specs.Valid.{ofParts, valid}
 use Rattle.decide.specs.declared.Decision.{Decision}
 use Rattle.decide.specs.declared.Decision.the-variants.{Invalid, Short}
 use Rattle.decide.specs.Decided.{longEnough, decision, headsLeft, triplesLeft, Decided}
-use Rattle.decide.specs.Ran.{Able, Ran}
+use Rattle.decide.specs.Ran.{shapeOf, Able, Ran}
 
--- what a record says beside its arrays; a record's parts are valid exactly if it is
-abbrev pub shape : Model → Shape
-shape m = record { symbols = m .symbols; states = m .states; events = m .events; startstate = m .startstate; startsymbol = m .startsymbol; rules = m .rules; moves = m .moves }
-
-pub of-parts : (m : Model) {b : Bool} → b ≡ valid (ofParts (shape m) (m .rulerows) (m .moverows) [] []) → b ≡ valid m
+-- a record's parts are valid exactly if it is
+pub of-parts : (m : Model) {b : Bool} → b ≡ valid (ofParts (shapeOf m) (m .rulerows) (m .moverows) [] []) → b ≡ valid m
 unfolding valid
 of-parts m e = e
 
@@ -51,3 +48,8 @@ module _ (m : Model) (budget : ℕ) (hs ts : List ℕ) {b : Bool} (tested : b �
         pub done : {r : Decision} {hs′ ts′ : List ℕ} → Ran m budget hs ts r hs′ ts′ → Decided m budget hs ts r hs′ ts′
         unfolding decision headsLeft triplesLeft
         done a = record { answer = rw (is-valid, is-long) (a .answer); heads = rw (is-valid, is-long) (a .heads); triples = rw (is-valid, is-long) (a .triples) }
+
+-- the parts of a record make the record
+pub whole : (m : Model) {s : Shape} → s ≡ shapeOf m → {budget : ℕ} {hs ts : List ℕ} {r : Decision} {hs′ ts′ : List ℕ}
+    → Decided (ofParts s (m .rulerows) (m .moverows) (m .shows) (m .finals)) budget hs ts r hs′ ts′ → Decided m budget hs ts r hs′ ts′
+whole m e {budget} {hs} {ts} {r} {hs′} {ts′} = subst (λ s. Decided (ofParts s (m .rulerows) (m .moverows) (m .shows) (m .finals)) budget hs ts r hs′ ts′) e

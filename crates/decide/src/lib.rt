@@ -2,7 +2,7 @@
 ghost use mathlib.Core.Path.{_≡_};
 ghost use Rattle.decide.specs.Decided.{Decided};
 ghost use Rattle.model.specs.Valid.{ofParts};
-ghost use Rattle.decide.specs.Ran.{Able, Started, Ran};
+ghost use Rattle.decide.specs.Ran.{shapeOf, Able, Started, Ran};
 use crate::build::first_rules;
 use crate::build::goal_of;
 use model::Model;
@@ -87,6 +87,21 @@ fn run<'a>(
     )
 }
 
+// What a model says beside its arrays.
+fn shape_of(m: Model) -> Shape
+    ensures { λ s. ⌜ s ≡ shapeOf m ⌝ }
+{
+    Shape {
+        symbols: m.symbols,
+        states: m.states,
+        events: m.events,
+        startstate: m.startstate,
+        startsymbol: m.startsymbol,
+        rules: m.rules,
+        moves: m.moves,
+    }
+}
+
 // Decides a model that is lent in parts.
 fn decide_parts<'a>(
     shape: Shape,
@@ -126,17 +141,8 @@ fn decide_parts<'a>(
 pub fn decide(m: Model, budget: u32, heads: &mut [u16], triples: &mut [u16]) -> Decision
     ensures { λ r. ⌜ Decided m budget (now (heads .entry)) (now (triples .entry)) r (now (heads .exit)) (now (triples .exit)) ⌝ }
 {
-    let shape = Shape {
-        symbols: m.symbols,
-        states: m.states,
-        events: m.events,
-        startstate: m.startstate,
-        startsymbol: m.startsymbol,
-        rules: m.rules,
-        moves: m.moves,
-    };
     decide_parts(
-        shape,
+        shape_of(m),
         &m.rulerows,
         &m.moverows,
         &m.shows,
