@@ -216,5 +216,9 @@ module _ (final : ℕ → Bool) where
   pub finals-all : (n k r : ℕ) → n ≡ k → FinalsTo n r → FinalsTo k r
   finals-all n k r e = subst (λ n. FinalsTo n r) e
 
-pub final-bit : (final : ℕ → Bool) (q : ℕ) → q < 8 → final q ≡ true → (1 * 2 ^ q) % 2 ^ 64 ≡ cond (final q) (2 ^ q) 0
-final-bit final q l e = rw e (one-shifted 64 q (omega arith))
+module _ (final : ℕ → Bool) (q : ℕ) where
+  pub final-bit : q < 8 → {b : Bool} → b ≡ final q → b ≡ true → (1 * 2 ^ q) % 2 ^ 64 ≡ cond (final q) (2 ^ q) 0
+  final-bit l e t = rw (sym e ∙ t) (one-shifted 64 q (omega arith))
+
+  pub not-final : {b : Bool} → b ≡ final q → b ≡ false → 0 ≡ cond (final q) (2 ^ q) 0
+  not-final e t = rw (sym e ∙ t)

@@ -22,7 +22,7 @@ use Rattle.product.proofs.Demands.{bound-small}
 use Rattle.table.specs.declared.Size.{Size}
 use Rattle.bits.specs.Bit.{bit}
 use Rattle.decide.specs.declared.Decision.{Decision}
-use Rattle.decide.specs.declared.Decision.the-variants.{Violation, Safe, Invalid, Short, Spent}
+use Rattle.decide.specs.declared.Decision.the-variants.{Violation, Safe, Spent}
 use Rattle.decide.specs.Decided.{meaning, within}
 use Rattle.decide.specs.Stamp.{of-heads, of-triples}
 use Rattle.decide.specs.declared.Goal.{Goal}
@@ -34,7 +34,7 @@ use Rattle.decide.specs.Take.{TriplesReady, TriplesDone}
 use Rattle.decide.specs.Show.{HeadsReady, HeadsDone}
 use Rattle.decide.specs.Standing.{Begins, Kept}
 use Rattle.decide.specs.Turn.{Chosen}
-use Rattle.decide.specs.Driven.{violations, Tested, Judged, Goals, startRows, Starts, Driving, Answers, Driven}
+use Rattle.decide.specs.Driven.{violations, Tested, violates, is-safe, is-spent, goes-on, Judged, Goals, startRows, Starts, Driving, Answers, Driven}
 use Rattle.decide.proofs.Found.{found, not-found}
 use Rattle.decide.proofs.Done.{heads-ready, triples-ready, round-ends}
 use Rattle.decide.proofs.Turning.{triples-low, heads-low, after-turn}
@@ -128,8 +128,8 @@ module _ {z : Size} {goal : Goal} {t₀ : Next} {rs tg us hs ts : List ℕ} wher
             }
 
     module _ (r : ℕ) (r-is : (x : ℕ) → bit r x ≡ violations (goal .finals) (t .changed) hd e (goal .state) (goal .symbol) x) where
-      violates : (r ≡ 0 → ⊥) → Driven z goal t₀ rs tg us hs ts budget (Violation n) hs′ ts′
-      violates k =
+      violated-now : (r ≡ 0 → ⊥) → Driven z goal t₀ rs tg us hs ts budget (Violation n) hs′ ts′
+      violated-now k =
           answered (Violation n) (λ p s.
           let b = G .at p s in
           (some (violation n), refl, sym (answer-of p budget (violation n) (b .goes, found (b .begins) (s .goals) (t .changed) (b .low) r r-is k) (b .in-budget)), refl))
@@ -138,25 +138,25 @@ module _ {z : Size} {goal : Goal} {t₀ : Next} {rs tg us hs ts : List ℕ} wher
         unviolated : (p : Product) → Starts p z goal t₀ rs tg us hs ts → T (not (violated p n))
         unviolated p s = let b = G .at p s in not-found (b .begins) (s .goals) (t .changed) (b .low) r r-is (b .others) clean
 
-        is-safe : t .more ≡ 0 → Driven z goal t₀ rs tg us hs ts budget (Safe n) hs′ ts′
-        is-safe x =
+        safe-now : t .more ≡ 0 → Driven z goal t₀ rs tg us hs ts budget (Safe n) hs′ ts′
+        safe-now x =
             answered (Safe n) (λ p s.
             let b = G .at p s in
             (some (safe n), refl, sym (answer-of p budget (safe n) (b .goes, (unviolated p s, b .idle x)) (b .in-budget)), refl))
 
         module _ (x : t .more ≡ 0 → ⊥) where
-          goes-on : (p : Product) → Starts p z goal t₀ rs tg us hs ts → (k : ℕ) → k < suc n → GoesOn p k
-          goes-on p s k l = at (ℕ-discrete k n)
+          went-on : (p : Product) → Starts p z goal t₀ rs tg us hs ts → (k : ℕ) → k < suc n → GoesOn p k
+          went-on p s k l = at (ℕ-discrete k n)
             where
               at : Dec (k ≡ n) → GoesOn p k
               at (yes i) = subst⁻¹ (GoesOn p) i (unviolated p s, G .at p s .busy x)
               at (no i) = G .at p s .goes k (omega arith)
 
-          is-spent : budget ≤ n → Driven z goal t₀ rs tg us hs ts budget (Spent budget) hs′ ts′
-          is-spent l = answered (Spent budget) (λ p s. (none, refl, sym (go p s (answer p budget) (answer-stands p budget)), omega (arith, G .at p s .in-budget)))
+          spent-now : budget ≤ n → Driven z goal t₀ rs tg us hs ts budget (Spent budget) hs′ ts′
+          spent-now l = answered (Spent budget) (λ p s. (none, refl, sym (go p s (answer p budget) (answer-stands p budget)), omega (arith, G .at p s .in-budget)))
             where
               go : (p : Product) → Starts p z goal t₀ rs tg us hs ts → (o : Option Verdict) → Stands p (suc budget) o → o ≡ none
-              go p s _ (decided v i k) = absurd (stopped p v (i .1) (goes-on p s (rounds v) (omega (arith, G .at p s .in-budget))))
+              go p s _ (decided v i k) = absurd (stopped p v (i .1) (went-on p s (rounds v) (omega (arith, G .at p s .in-budget))))
               go p s _ (undecided _) = refl
 
           -- no head of the round before is in a final state
@@ -166,22 +166,30 @@ module _ {z : Size} {goal : Goal} {t₀ : Next} {rs tg us hs ts : List ℕ} wher
 
     -- what the tests say: an answer
     pub ends : {o : Outcome} (d : Decision) → Judged goal n budget t hd e o → o ≡ Ends d → Driven z goal t₀ rs tg us hs ts budget d hs′ ts′
-    ends d j i = go d (subst (Tested n budget (t .more) (j .seen)) i (j .tested))
+    ends d j i = go (j .tested) i
       where
-        go : (d : Decision) → Tested n budget (t .more) (j .seen) (Ends d) → Driven z goal t₀ rs tg us hs ts budget d hs′ ts′
-        go (Violation k) (i, f) = rw i (violates (j .seen) (j .seen-is) f)
-        go (Safe k) (i, c, x) = rw i (is-safe (j .seen) (j .seen-is) c x)
-        go (Spent b) (i, c, x, l) = rw i (is-spent (j .seen) (j .seen-is) c x l)
-        go Invalid x = absurd x
-        go Short x = absurd x
+        of-it : {d′ : Decision} → d′ ≡ d → Driven z goal t₀ rs tg us hs ts budget d′ hs′ ts′ → Driven z goal t₀ rs tg us hs ts budget d hs′ ts′
+        of-it = subst (λ d. Driven z goal t₀ rs tg us hs ts budget d hs′ ts′)
+
+        go : {o : Outcome} → Tested n budget (t .more) (j .seen) o → o ≡ Ends d → Driven z goal t₀ rs tg us hs ts budget d hs′ ts′
+        go (violates f) i = of-it (cc) (violated-now (j .seen) (j .seen-is) f)
+        go (is-safe c x) i = of-it (cc) (safe-now (j .seen) (j .seen-is) c x)
+        go (is-spent c x l) i = of-it (cc) (spent-now (j .seen) (j .seen-is) c x l)
+        go (goes-on c x l) i = let z : _≡_ {A = ℕ} 0 1 = cc in absurd (omega arith)
 
     -- or to go on: there is room for a round, which can be run
     module _ {o : Outcome} (j : Judged goal n budget t hd e o) (i : o ≡ Goes) (d : Driving z goal t₀ rs tg us hs ts) where
-      on : Tested n budget (t .more) (j .seen) Goes
-      on = subst (Tested n budget (t .more) (j .seen)) i (j .tested)
+      on : (j .seen ≡ 0) × (t .more ≡ 0 → ⊥) × (n < budget)
+      on = go (j .tested) i
+        where
+          go : {o : Outcome} → Tested n budget (t .more) (j .seen) o → o ≡ Goes → (j .seen ≡ 0) × (t .more ≡ 0 → ⊥) × (n < budget)
+          go (violates f) i = let z : _≡_ {A = ℕ} 0 1 = cc in absurd (omega arith)
+          go (is-safe c x) i = let z : _≡_ {A = ℕ} 0 1 = cc in absurd (omega arith)
+          go (is-spent c x l) i = let z : _≡_ {A = ℕ} 0 1 = cc in absurd (omega arith)
+          go (goes-on c x l) i = (c, x, l)
 
       pub room : n < 2304
-      room = let (c, x, _) = on in few-rounds (d .product) (d .starts) (suc n) (goes-on (j .seen) (j .seen-is) c x (d .product) (d .starts))
+      room = let (c, x, _) = on in few-rounds (d .product) (d .starts) (suc n) (went-on (j .seen) (j .seen-is) c x (d .product) (d .starts))
 
       abbrev stands : Begins (d .product) z n (t .wt) (t .wh) rs tg by e hd hs′ ts′
       stands = G .at (d .product) (d .starts) .begins
@@ -221,6 +229,6 @@ module _ {z : Size} {goal : Goal} {t₀ : Next} {rs tg us hs ts : List ℕ} wher
                   busy = o .busy;
                   low = o .low;
                   others = λ q′ s′ c h. not-final (j .seen) (j .seen-is) clean x p s q′ s′ (o .quiet q′ s′ c h);
-                  goes = goes-on (j .seen) (j .seen-is) clean x p s;
+                  goes = went-on (j .seen) (j .seen-is) clean x p s;
                   in-budget = l;
                 })

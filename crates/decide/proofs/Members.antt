@@ -22,7 +22,7 @@ use Rattle.bits.proofs.Bit.{bit-or, bit-zero}
 use Rattle.bits.proofs.Set.{bit-set}
 use Rattle.bits.proofs.Lowest.{lowest, lowest-set, cleared, cleared-less}
 use Rattle.bits.proofs.Some.{some-of, of-some, low64}
-use Rattle.decide.specs.Sets.{member, chosen, among, With, weight, Picked, Joined, Put}
+use Rattle.decide.specs.Sets.{member, chosen, among, With, weight, PickedIn, Picked, Joined, Put}
 
 sixty-four : 0 < 64
 sixty-four = zero-lt-suc 63
@@ -90,9 +90,9 @@ module _ (w : List ℕ) (k d : ℕ) (long : length w ≡ 4) (k-in : k < 4) (pos 
   place-is : r % 64 ≡ lowest d
   place-is = digits-mod k low
 
-  pub picked-in : Picked w (k * 64 + lowest d) (set w k (bitAnd d (d - 1)))
+  picked : Picked w (k * 64 + lowest d) (set w k (bitAnd d (d - 1)))
   unfolding chosen
-  picked-in = record {
+  picked = record {
     long = length-set w k (bitAnd d (d - 1)) ∙ long;
     there = λ _. is-there;
     less = λ _. lighter k k-in d-is;
@@ -128,14 +128,20 @@ module _ (w : List ℕ) (k d : ℕ) (long : length w ≡ 4) (k-in : k < 4) (pos 
           other-word w k (bitAnd d (d - 1)) (omega (arith, long)) x y
           ∙ and-true (chosen w x) ∙ ap (λ b. chosen w x && not b) (sym (apart x r (λ e. y (sym word-is ∙ sym e))))
 
+  pub picked-in : {j : ℕ} → j ≡ lowest d → PickedIn w k (k * 64 + j) (set w k (bitAnd d (d - 1)))
+  picked-in e = rw e (record { some = λ _. picked; none = λ h. absurd (h (omega (arith, low))) })
+
+pub picked-empty : (w : List ℕ) {k : ℕ} → getD w k 0 ≡ 0 → PickedIn w k 256 w
+picked-empty w z = record { some = λ h. absurd (omega arith); none = λ _. (refl, z) }
+
 -- no word is left
-picked-none : (w : List ℕ) → length w ≡ 4 → ((k : ℕ) → k < 4 → getD w k 0 ≡ 0) → Picked w 256 w
+picked-none : (w : List ℕ) (r : ℕ) → (r < 256 → ⊥) → length w ≡ 4 → ((k : ℕ) → k < 4 → getD w k 0 ≡ 0) → Picked w r w
 unfolding chosen
-picked-none w long word = record {
+picked-none w r past-end long word = record {
   long = long;
-  there = λ h. absurd (omega arith);
-  less = λ h. absurd (omega arith);
-  rest = λ h. absurd (omega arith);
+  there = λ h. absurd (past-end h);
+  less = λ h. absurd (past-end h);
+  rest = λ h. absurd (past-end h);
   none = λ _ x. at x (decLt (x / 64) 4);
 }
   where
@@ -148,32 +154,37 @@ picked-none w long word = record {
         past (a ∷ w) zero h = absurd (omega arith)
         past (a ∷ w) (suc i) h = past w i (omega arith)
 
--- the loop over the words: the set is as it was, and the first k words are empty
+-- word after word: the set is as it was, and the first k words are empty
 pub record Passed (w₀ : List ℕ) (k : ℕ) (w : List ℕ) : Type 0 where
-  pub few : k ≤ 4
   pub same : w ≡ w₀
   pub empty : (j : ℕ) → j < k → getD w₀ j 0 ≡ 0
 
 module _ {w₀ : List ℕ} where
   pub passed-first : Passed w₀ 0 w₀
-  passed-first = record { few = omega arith; same = refl; empty = λ j h. absurd (omega arith) }
+  passed-first = record { same = refl; empty = λ j h. absurd (omega arith) }
 
   module _ {k : ℕ} {w : List ℕ} (p : Passed w₀ k w) where
     pub passed-long : length w₀ ≡ 4 → length w ≡ 4
     passed-long n = ap length (p .same) ∙ n
 
-    pub passed-next : k < 4 → getD w k 0 ≡ 0 → Passed w₀ (k + 1) w
-    passed-next l z = record { few = omega arith; same = p .same; empty = λ j h. at j h (ℕ-discrete j k) }
-      where
-        at : (j : ℕ) → j < k + 1 → Dec (j ≡ k) → getD w₀ j 0 ≡ 0
-        at j h (yes e) = ap (λ j. getD w₀ j 0) e ∙ ap (λ w. getD w k 0) (sym (p .same)) ∙ z
-        at j h (no e) = p .empty j (omega arith)
+    module _ {r : ℕ} {w′ : List ℕ} (i : PickedIn w k r w′) where
+      pub passed-next : 256 ≤ r → Passed w₀ (suc k) w′
+      passed-next l = let (e, z) = i .none (λ h. omega arith) in record { same = e ∙ p .same; empty = λ j h. at j h (ℕ-discrete j k) z }
+        where
+          at : (j : ℕ) → j < suc k → Dec (j ≡ k) → getD w k 0 ≡ 0 → getD w₀ j 0 ≡ 0
+          at j h (yes e) z = ap (λ j. getD w₀ j 0) e ∙ ap (λ w. getD w k 0) (sym (p .same)) ∙ z
+          at j h (no e) z = p .empty j (omega arith)
 
-    pub passed-pick : {r : ℕ} {w′ : List ℕ} → Picked w r w′ → Picked w₀ r w′
-    passed-pick {r} {w′} = subst (λ w. Picked w r w′) (p .same)
+      pub passed-pick : r < 256 → Picked w₀ r w′
+      passed-pick h = subst (λ w. Picked w r w′) (p .same) (i .some h)
 
-    pub passed-all : 4 ≤ k → length w₀ ≡ 4 → Picked w₀ 256 w
-    passed-all l n = subst⁻¹ (Picked w₀ 256) (p .same) (picked-none w₀ n (λ j h. p .empty j (omega arith)))
+  -- the last word
+  pub passed-last : {w w′ : List ℕ} {r : ℕ} → length w₀ ≡ 4 → Passed w₀ 3 w → PickedIn w 3 r w′ → Picked w₀ r w′
+  passed-last {w} {w′} {r} n p i = go (decLt r 256)
+    where
+      go : Dec (r < 256) → Picked w₀ r w′
+      go (yes h) = passed-pick p i h
+      go (no h) = let q = passed-next p i (omega arith) in subst⁻¹ (Picked w₀ r) (q .same) (picked-none w₀ r h n (λ j l. q .empty j (omega arith)))
 
 -- a set joined with set number s, word by word: the first k are done
 pub record JoinedTo (w l : List ℕ) (s k : ℕ) (w′ : List ℕ) : Type 0 where

@@ -45,11 +45,10 @@ use Rattle.decide.specs.Standing.{Standing, Stored, Sets}
 use Rattle.decide.specs.Turn.{UsesOf, Uses}
 use Rattle.decide.specs.Driven.{Goals, Starts, startRows, Driving, Answers, Driven}
 use Rattle.decide.specs.Build.{First, GoalOf}
-use Rattle.decide.specs.Ran.{Able, Started, Ran}
+use Rattle.decide.specs.Ran.{shapeOf, Able, Started, Ran}
 use Rattle.decide.proofs.Gathered.{mat-none}
 use Rattle.decide.proofs.Emptied.{zeros-at}
 use Rattle.decide.proofs.Choosing.{no-member, off, collected-cases, collected-new}
-use Rattle.decide.proofs.Tested.{shape}
 use Rattle.decide.proofs.Framed.{SameRows, row-lent, model-frame}
 
 -- a set of one
@@ -70,7 +69,7 @@ module _ (m : Model) (v : T (valid m)) {rs : List ℕ} (same : SameRows rs (m .r
   g-in = omega (arith, start-symbol-in m v, valid-sizes m v .symbols)
 
   -- what is looked for
-  module _ {goal : Goal} (of : GoalOf (shape m) (productOf m .final) goal) where
+  module _ {goal : Goal} (of : GoalOf (shapeOf m) (productOf m .final) goal) where
     pub state-in : goal .state < 8
     state-in = omega (arith, of .state-is, q-in)
 
@@ -201,7 +200,7 @@ module _ (m : Model) (v : T (valid m)) {rs : List ℕ} (same : SameRows rs (m .r
     }
 
   -- THE START, of a goal, of the rules of the first round and of the arrays of round 0
-  module _ {hs ts hs′ ts′ : List ℕ} {goal : Goal} {us tg : List ℕ} {t : Next} (able : Able m hs ts) (of : GoalOf (shape m) (productOf m .final) goal)
+  module _ {hs ts hs′ ts′ : List ℕ} {goal : Goal} {us tg : List ℕ} {t : Next} (able : Able m hs ts) (of : GoalOf (shapeOf m) (productOf m .final) goal)
       (st : Started z (goal .state) (goal .symbol) hs ts hs′ ts′) (f : First rs (m .rules) (goal .symbol) us t)
       (tg-is : tg ≡ classSteps m) where
     st′ : Started z (m .startstate) (m .startsymbol) hs ts hs′ ts′

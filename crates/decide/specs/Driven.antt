@@ -13,7 +13,7 @@ use Rattle.table.specs.declared.Size.{Size}
 use Rattle.bits.specs.Bit.{bit}
 use Rattle.bits.specs.Matrix.{some}
 use Rattle.decide.specs.declared.Decision.{Decision}
-use Rattle.decide.specs.declared.Decision.the-variants.{Violation, Safe, Invalid, Short, Spent}
+use Rattle.decide.specs.declared.Decision.the-variants.{Violation, Safe, Spent}
 use Rattle.decide.specs.declared.Goal.{Goal}
 use Rattle.decide.specs.declared.Next.{Next}
 use Rattle.decide.specs.declared.rounds.Outcome.{Outcome}
@@ -32,13 +32,11 @@ unfoldable pub violations : (fins changed : ℕ) → (hd e : List ℕ) → (q g 
 violations fins changed hd e q g x = (bit (getD e g 0) (x + 8 * q) && bit fins x) || finalHeads fins changed hd x
 
 -- after round n: `seen` has the final states of violating facts, and the three tests of it, in this order
-abbrev pub Tested : (n budget more seen : ℕ) → Outcome → Type 0
-Tested n budget more seen Goes = (seen ≡ 0) × (more ≡ 0 → ⊥) × (n < budget)
-Tested n budget more seen (Ends (Violation k)) = (k ≡ n) × (seen ≡ 0 → ⊥)
-Tested n budget more seen (Ends (Safe k)) = (k ≡ n) × (seen ≡ 0) × (more ≡ 0)
-Tested n budget more seen (Ends (Spent b)) = (b ≡ budget) × (seen ≡ 0) × (more ≡ 0 → ⊥) × (budget ≤ n)
-Tested n budget more seen (Ends Invalid) = ⊥
-Tested n budget more seen (Ends Short) = ⊥
+pub data Tested (n budget more seen : ℕ) : Outcome → Type 0 where
+  violates : (seen ≡ 0 → ⊥) → Tested n budget more seen (Ends (Violation n))
+  is-safe : seen ≡ 0 → more ≡ 0 → Tested n budget more seen (Ends (Safe n))
+  is-spent : seen ≡ 0 → (more ≡ 0 → ⊥) → budget ≤ n → Tested n budget more seen (Ends (Spent budget))
+  goes-on : seen ≡ 0 → (more ≡ 0 → ⊥) → n < budget → Tested n budget more seen Goes
 
 pub record Judged (goal : Goal) (n budget : ℕ) (t : Next) (hd e : List ℕ) (o : Outcome) : Type 0 where
   pub seen : ℕ

@@ -66,17 +66,7 @@ fn run(shape: Shape, m: &Lent, budget: u32, heads: &mut [u16], triples: &mut [u1
     let tg = steps::class_steps(m);
     let mut us = [0u64; 384];
     let first = first_rules(m, shape.rules, goal.symbol, &mut us);
-    rounds::run(
-        size,
-        goal,
-        first,
-        m,
-        &tg,
-        &us,
-        heads,
-        triples,
-        budget,
-    )
+    rounds::run(size, goal, first, m, &tg, &us, heads, triples, budget)
 }
 
 // Decides a model within a budget of rounds, and leaves in the arrays the ranks of the facts held. Nothing is written on 6 and 7.

@@ -117,8 +117,8 @@ pub(crate) fn run(
         }
         n += 1;
         let wh = t.wh;
-        let ch = round_heads(size, n, wh, rules, tg, &e, &mut nh, &mut hd, heads);
         let wt = t.wt;
+        let ch = round_heads(size, n, wh, rules, tg, &e, &mut nh, &mut hd, heads);
         let ce = round_triples(size, n, wt, rules, tg, &mut by, &mut e, triples);
         t = choose(us, ce, ch);
     }

@@ -1,12 +1,13 @@
 // Sets of numbers below 256, of rules or of classes, in four words; and such sets for each symbol.
 ghost use mathlib.Core.Path.{_≡_};
 ghost use Prim.Native.Nat.{ℕ, _<_, _+_, _≤_, _*_, _^_};
+ghost use lib.Count.{trailingZeros};
 ghost use lib.ListN.{length, getD};
 ghost use lib.Dec.{T};
 ghost use Rattle.bits.specs.Bit.{bit};
 ghost use Rattle.decide.specs.Take.{Gained};
 ghost use Rattle.decide.specs.Turn.{Collected};
-ghost use Rattle.decide.specs.Sets.{With, Picked, Joined, Put};
+ghost use Rattle.decide.specs.Sets.{With, PickedIn, Picked, Joined, Put};
 
 // Puts c into the set.
 pub(crate) fn add(set: &mut [u64; 4], c: usize)
@@ -30,31 +31,46 @@ pub(crate) fn gain(held: &mut [u64; 32], g: usize, m: u64) -> u64
     all ^ old
 }
 
-// Takes the lowest member out of word k, which is d.
-fn pick_in(set: &mut [u64; 4], k: usize, d: u64) -> usize
-    requires { ⌜ length (now set) ≡ 4 ⌝ }
-    requires { ⌜ (k < 4) × (0 < d) × (getD (now set) k 0 ≡ d) ⌝ }
-    ensures { λ r. ⌜ Picked (now (set .entry)) r (now (set .exit)) ⌝ }
+// The place of the lowest bit of a word; 64 where it has none.
+fn lowest(d: u64) -> usize
+    ensures { λ r. ⌜ r ≡ trailingZeros 64 d ⌝ }
+    ensures { λ _. ⌜ d < 2 ^ 64 ⌝ }
 {
-    set[k] = d & (d - 1);
-    let j = u64::trailing_zeros(d) as usize;
-    k * 64 + j
+    u64::trailing_zeros(d) as usize
 }
 
-// Takes the lowest member out of the set; 256 where it has none. The loop is short enough for the compiler to keep each word in a register.
+// Takes the lowest member out of word k; 256 where it has none.
+fn pick_in(set: &mut [u64; 4], k: usize) -> usize
+    requires { ⌜ length (now set) ≡ 4 ⌝ }
+    requires { ⌜ k < 4 ⌝ }
+    ensures { λ r. ⌜ PickedIn (now (set .entry)) k r (now (set .exit)) ⌝ }
+{
+    let d = set[k];
+    if d == 0 {
+        return 256;
+    }
+    set[k] = d & (d - 1);
+    k * 64 + lowest(d)
+}
+
+// Takes the lowest member out of the set; 256 where it has none. The words are named one by one, so that the compiler keeps each in a register.
 pub(crate) fn pick(set: &mut [u64; 4]) -> usize
     requires { ⌜ length (now set) ≡ 4 ⌝ }
     ensures { λ r. ⌜ Picked (now (set .entry)) r (now (set .exit)) ⌝ }
 {
-    let mut k: usize = 0;
-    while k < 4 {
-        let d = set[k];
-        if d != 0 {
-            return pick_in(set, k, d);
-        }
-        k += 1;
+    let a = pick_in(set, 0);
+    if a < 256 {
+        return a;
     }
-    256
+    let b = pick_in(set, 1);
+    if b < 256 {
+        return b;
+    }
+    let c = pick_in(set, 2);
+    if c < 256 {
+        return c;
+    }
+    pick_in(set, 3)
 }
 
 // The set takes in the members of set number s.

@@ -1,46 +1,87 @@
+-- `decide::run` meets its contract: the start of the rounds, and what they leave. Assumes nothing.
+use mathlib.Core.Path.{sym, _∙_}
+use denote.Ref.{now}
 use borrow.Author.Needs.{needs}
-use native.Mathlib.Omega.{arith}
+use Rattle.model.proofs.Valid.{valid-sizes}
+use Rattle.lent.specs.Lending.{ofLent, modelIn}
+use Rattle.decide.proofs.Emptied.{empty-first}
+use Rattle.decide.proofs.Framed.{same-rows}
+use Rattle.decide.proofs.Tested.{steps-read}
+use Rattle.decide.proofs.Starting.{symbol-in, driving, heads-same, triples-same, ran}
 use Rattle.decide.proofs.run.Statement.{statement}
 use Rattle.decide.proofs.run.Tie as tie
-use Rattle.decide.proofs.run.Reads as reads
-use Rattle.decide.proofs.run.Lts as lts
-use Rattle.decide.proofs.build.first_rules.Reads as first-rules-reads
-use Rattle.decide.proofs.build.goal_of.Reads as goal-of-reads
-use Rattle.decide.proofs.rounds.run.Reads as run-reads
-use Rattle.decide.proofs.start.Reads as start-reads
-use Rattle.steps.proofs.class_steps.Reads as class-steps-reads
 
--- src/lib.rt:64:9
 goal-of-requires : tie.Need-goal-of-requires
 goal-of-requires c κs = search needs
 
--- src/lib.rt:65:5
 start-requires : tie.Need-start-requires
 start-requires c κs = search needs
 
--- src/lib.rt:66:14
 class-steps-requires : tie.Need-class-steps-requires
 class-steps-requires c κs = search needs
 
--- src/lib.rt:68:9
 first-rules-requires : tie.Need-first-rules-requires
-first-rules-requires c κs = search needs
+unfolding modelIn
+first-rules-requires c κs =
+    let goal = c .before .before .before .before .before .before .before .before .before in
+    let s = goal .before .before .before in
+    let v = s .pre .1 .valid-model in
+    (valid-sizes _ v .rules, (symbol-in _ v (same-rows (now (s .args .m))) (goal .goal-of .ensures), empty-first 384))
 
--- src/lib.rt:69:5
 run-requires : tie.Need-run-requires
-run-requires c κs = search needs
+unfolding modelIn
+run-requires c κs =
+    let built = c .before .before .before .before in
+    let made = built .before .before in
+    let begun = made .before .before .before .before .before in
+    let goal = begun .before .before .before in
+    let s = goal .before .before .before in
+    let cells = now (s .args .m) in
+    let m = ofLent (s .args .shape) cells in
+    let tg-is = made .class-steps .ensures ∙ sym (steps-read cells (s .pre .0)) in
+    driving m (s .pre .1 .valid-model) (same-rows cells) (s .pre .1) (goal .goal-of .ensures) (begun .start .ensures) (built .first-rules .ensures) tg-is
 
--- src/lib.rt:55:1
 same-length : tie.Need-same-length
-same-length c = search needs
+unfolding modelIn
+same-length c =
+    let ran = c .before .before .before .before in
+    let built = ran .before .before .before .before .before in
+    let made = built .before .before in
+    let begun = made .before .before .before .before .before in
+    let goal = begun .before .before .before in
+    let s = goal .before .before .before in
+    let cells = now (s .args .m) in
+    let m = ofLent (s .args .shape) cells in
+    let tg-is = made .class-steps .ensures ∙ sym (steps-read cells (s .pre .0)) in
+    heads-same m (s .pre .1 .valid-model) (same-rows cells) (s .pre .1) (goal .goal-of .ensures) (begun .start .ensures) (built .first-rules .ensures) tg-is (ran .run .ensures)
 
--- src/lib.rt:55:1
 same-length-2 : tie.Need-same-length-2
-same-length-2 c = search needs
+unfolding modelIn
+same-length-2 c =
+    let ran = c .before .before .before .before in
+    let built = ran .before .before .before .before .before in
+    let made = built .before .before in
+    let begun = made .before .before .before .before .before in
+    let goal = begun .before .before .before in
+    let s = goal .before .before .before in
+    let cells = now (s .args .m) in
+    let m = ofLent (s .args .shape) cells in
+    let tg-is = made .class-steps .ensures ∙ sym (steps-read cells (s .pre .0)) in
+    triples-same m (s .pre .1 .valid-model) (same-rows cells) (s .pre .1) (goal .goal-of .ensures) (begun .start .ensures) (built .first-rules .ensures) tg-is (ran .run .ensures)
 
--- src/lib.rt:55:1
 returns : tie.Need-returns
-returns c = search needs
+unfolding modelIn
+returns c =
+    let went = c .before .before .before .before in
+    let built = went .before .before .before .before .before in
+    let made = built .before .before in
+    let begun = made .before .before .before .before .before in
+    let goal = begun .before .before .before in
+    let s = goal .before .before .before in
+    let cells = now (s .args .m) in
+    let m = ofLent (s .args .shape) cells in
+    let tg-is = made .class-steps .ensures ∙ sym (steps-read cells (s .pre .0)) in
+    ran m (s .pre .1 .valid-model) (same-rows cells) (s .pre .1) (goal .goal-of .ensures) (begun .start .ensures) (built .first-rules .ensures) tg-is (went .run .ensures)
 
 pub run-spec : {M : Type 1} → statement M
 run-spec =

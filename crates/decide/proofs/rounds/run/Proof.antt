@@ -22,62 +22,69 @@ abbrev μ-loop : tie.MeasureT-loop
 μ-loop size goal rules tg us heads₀ triples₀ budget by₀ nh₀ e₀ hd₀ n₀ t₀ heads triples by nh e hd n t =
     2305 - n
 
--- src/rounds.rt:109:5
 begin-requires : tie.Need-begin-requires Inv-loop μ-loop
 begin-requires c κs = let d = c .before .before .before .pre in (small-state d, small-symbol d)
 
--- src/rounds.rt:112:5
 loop-holds : tie.Need-loop-holds Inv-loop μ-loop
 loop-holds c = let d = c .before .before .before .before .pre in (empty-first 32, going-first _ d (c .begin .ensures))
 
--- src/rounds.rt:113:13
 judge-requires : tie.Need-judge-requires Inv-loop μ-loop
 judge-requires c κs = let at = c .before .before in let d = at .before .before .before .before .before .pre in (small-state d, (small-symbol d, changed-low (at .loop .inv .1) d))
 
--- src/rounds.rt:114:30
 enum-known-o : tie.Need-enum-known-o Inv-loop μ-loop
 enum-known-o c = search needs
 
--- src/rounds.rt:115:13
 same-length : tie.Need-same-length Inv-loop μ-loop
 same-length c = let at = c .before .before .before .before .before .before in at .loop .inv .1 .heads-long
 
--- src/rounds.rt:115:13
 same-length-2 : tie.Need-same-length-2 Inv-loop μ-loop
 same-length-2 c = let at = c .before .before .before .before .before .before in at .loop .inv .1 .triples-long
 
--- src/rounds.rt:115:13
 returns : tie.Need-returns Inv-loop μ-loop
 returns c = let at = c .before .before .before .before .before .before in ends (at .loop .inv .1) _ (c .before .before .before .judge .ensures) (c .before .o .given .1)
 
 enum-told : tie.Need-enum-told Inv-loop μ-loop
 enum-told c = search needs
 
--- src/rounds.rt:117:9
 add-n : tie.Need-add-n Inv-loop μ-loop
 add-n c = let at = c .before .before .before .before .before in let d = at .before .before .before .before .before .pre in omega (arith, room (at .loop .inv .1) (c .before .before .judge .ensures) (c .enum-told .given .1) d)
 
--- src/rounds.rt:119:13
 round-heads-requires : tie.Need-round-heads-requires Inv-loop μ-loop
-round-heads-requires c κs = let told = c .before .before .before .before .before in let at = told .before .before .before .before .before in let d = at .before .before .before .before .before .pre in (can-heads (at .loop .inv .1) (told .before .before .judge .ensures) (told .enum-told .given .1) d, at .loop .inv .0)
+round-heads-requires c κs =
+    let told = c .before .before .before .before .before .before in
+    let at = told .before .before .before .before .before in
+    (can-heads (at .loop .inv .1) (told .before .before .judge .ensures) (told .enum-told .given .1) (at .before .before .before .before .before .pre), at .loop .inv .0)
 
--- src/rounds.rt:121:13
 round-triples-requires : tie.Need-round-triples-requires Inv-loop μ-loop
-round-triples-requires c κs = let told = c .before .before .before .before .before .before .before .before .before .before .before .before in let at = told .before .before .before .before .before in let d = at .before .before .before .before .before .pre in can-triples (at .loop .inv .1) (told .before .before .judge .ensures) (told .enum-told .given .1) d
+round-triples-requires c κs =
+    let told = c .before .before .before .before .before .before .before .before .before .before .before .before in
+    let at = told .before .before .before .before .before in
+    can-triples (at .loop .inv .1) (told .before .before .judge .ensures) (told .enum-told .given .1) (at .before .before .before .before .before .pre)
 
--- src/rounds.rt:122:9
 choose-requires : tie.Need-choose-requires Inv-loop μ-loop
-choose-requires c κs = let b = c .before .before .round-triples .ensures in let a = c .before .before .before .before .before .before .before .before .before .round-heads .ensures in let told = c .before .before .before .before .before .before .before .before .before .before .before .before .before .before .before in let at = told .before .before .before .before .before in let d = at .before .before .before .before .before .pre in
-    let g = at .loop .inv .1 in let j = told .before .before .judge .ensures in let i = told .enum-told .given .1 in (low-triples g j i d a b, low-heads g j i d a b)
+choose-requires c κs =
+    let b = c .before .before .round-triples .ensures in
+    let a = c .before .before .before .before .before .before .before .before .round-heads .ensures in
+    let told = c .before .before .before .before .before .before .before .before .before .before .before .before .before .before .before in
+    let at = told .before .before .before .before .before in
+    let g = at .loop .inv .1 in
+    let j = told .before .before .judge .ensures in
+    let i = told .enum-told .given .1 in
+    (low-triples g j i (at .before .before .before .before .before .pre) a b, low-heads g j i (at .before .before .before .before .before .pre) a b)
 
--- src/rounds.rt:112:5
 loop-less : tie.Need-loop-less Inv-loop μ-loop
-loop-less c = let told = c .before .before .before .before .before .before .before .before .before .before .before .before .before .before .before .before in let at = told .before .before .before .before .before in let d = at .before .before .before .before .before .pre in omega (arith, room (at .loop .inv .1) (told .before .before .judge .ensures) (told .enum-told .given .1) d)
+loop-less c =
+    let told = c .before .before .before .before .before .before .before .before .before .before .before .before .before .before .before .before in
+    let at = told .before .before .before .before .before in
+    omega (arith, room (at .loop .inv .1) (told .before .before .judge .ensures) (told .enum-told .given .1) (at .before .before .before .before .before .pre))
 
--- src/rounds.rt:112:5
 loop-again : tie.Need-loop-again Inv-loop μ-loop
-loop-again c = let b = c .before .before .before .round-triples .ensures in let a = c .before .before .before .before .before .before .before .before .before .before .round-heads .ensures in let told = c .before .before .before .before .before .before .before .before .before .before .before .before .before .before .before .before in let at = told .before .before .before .before .before in let d = at .before .before .before .before .before .pre in
-    (a .settles .empty, going-next (at .loop .inv .1) (told .before .before .judge .ensures) (told .enum-told .given .1) d a b (c .choose .ensures))
+loop-again c =
+    let b = c .before .before .before .round-triples .ensures in
+    let a = c .before .before .before .before .before .before .before .before .before .round-heads .ensures in
+    let told = c .before .before .before .before .before .before .before .before .before .before .before .before .before .before .before .before in
+    let at = told .before .before .before .before .before in
+    (a .settles .empty, going-next (at .loop .inv .1) (told .before .before .judge .ensures) (told .enum-told .given .1) (at .before .before .before .before .before .pre) a b (c .choose .ensures))
 
 pub run-spec : {M : Type 1} → statement M
 run-spec =
