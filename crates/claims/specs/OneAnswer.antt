@@ -11,7 +11,7 @@ use Rattle.product.specs.Product.{Step}
 use Rattle.product.specs.Facts.{head, consequences}
 use Rattle.text.specs.Split.{first, sameBytes}
 use Rattle.numbers.specs.declared.Numbers.{Numbers}
-use Rattle.numbers.specs.Field.{field, fieldsOf}
+use Rattle.numbers.specs.Field.{fieldsOf}
 use Rattle.numbers.specs.Digits.{digitsOf}
 use Rattle.table.specs.declared.Size.{Size}
 use Rattle.table.specs.Cells.{headCount, tripleCount, longEnough, headIn, tripleIn, putHead, putTriple, cleared, view}
@@ -98,8 +98,7 @@ pub record OneAnswer : Type 0 where
   pub states-after : (rulerows tg : List ℕ) (r from : ℕ) → One (λ x. x ≡ statesAfter rulerows tg r from)
   -- line, modelline and listingline
   pub spells : (s w : List ℕ) → One (λ r. r ≡ line.spells s w)
-  pub field-end : (s : List ℕ) → One (λ r. r ≡ length (field s))
-  pub read-behind : (s : List ℕ) (e : ℕ) → One (λ r. r ≡ line.behind s e)
+  pub read-from : (s : List ℕ) (b : ℕ) → One (λ r. r ≡ line.from s b)
   pub model-line : (s : List ℕ) → One (λ r. r ≡ modelline.lineAt s)
   pub listing-line : (s : List ℕ) → One (λ r. r ≡ listingline.lineAt s)
   -- limits and draft
