@@ -58,8 +58,6 @@ pub each-answer : OneAnswer
 each-answer = record {
   find = λ s c. equal _;
   same = λ a b. equal _;
-  byte-at = λ s e. equal _;
-  is-stop = λ b. equal _;
   read-fields = λ s. equal _;
   write-number = λ n. equal _;
   head-at = λ z heads q g. equal _;

@@ -7,7 +7,7 @@ use native.Mathlib.Omega.{arith}
 use lib.Dec.{ltb}
 use lib.ListN.{length, getD, take, drop, length-drop}
 use borrow.Author.Tests.{lt-ltb, le-ltb, ltb-true, ltb-false}
-use Rattle.text.specs.Split.{first, later, split}
+use Rattle.text.specs.Split.{first, split}
 use Rattle.text.proofs.Lists.{tail-part}
 use Rattle.text.proofs.Split.{place-within, no-later}
 use Rattle.text.proofs.Stops.{line-on, fields-after, end-after, place-inside}

@@ -2,8 +2,8 @@
 ghost use mathlib.Core.Path.{_≡_};
 ghost use Rattle.line.specs.Line.{spells, from};
 use numbers::FieldsRead;
-use numbers::Numbers;
 use numbers::MOST;
+use numbers::Numbers;
 
 // Whether s begins with `word` and a tab behind it. The tab is looked for first: it turns most other words away.
 pub fn spells(s: &[u8], word: &[u8]) -> bool
