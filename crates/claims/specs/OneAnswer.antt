@@ -1,17 +1,16 @@
 -- The public calls that OneOutcome does not name: any two outcomes that a contract allows coincide. An entry a call, in its contract's own words.
 -- Assumes nothing.
-use mathlib.Core.Bool.{Bool, _||_}
+use mathlib.Core.Bool.{Bool}
 use mathlib.Core.List.{List, [], _∷_}
 use mathlib.Core.Path.{_≡_}
 use Prim.Native.Nat.{ℕ, _<_}
-use lib.Dec.{eqb}
-use lib.ListN.{length, getD, take}
+use lib.ListN.{length, take}
 use Rattle.product.specs.Lists.{over, upTo}
 use Rattle.product.specs.Product.{Step}
 use Rattle.product.specs.Facts.{head, consequences}
 use Rattle.text.specs.Split.{first, sameBytes}
 use Rattle.numbers.specs.declared.Numbers.{Numbers}
-use Rattle.numbers.specs.Field.{field, fieldsOf}
+use Rattle.numbers.specs.Field.{fieldsOf}
 use Rattle.numbers.specs.Digits.{digitsOf}
 use Rattle.table.specs.declared.Size.{Size}
 use Rattle.table.specs.Cells.{headCount, tripleCount, longEnough, headIn, tripleIn, putHead, putTriple, cleared, view}
@@ -68,8 +67,6 @@ pub record OneAnswer : Type 0 where
   -- text
   pub find : (s : List ℕ) (c : ℕ) → One (λ r. r ≡ length (first c s))
   pub same : (a b : List ℕ) → One (λ r. r ≡ sameBytes a b)
-  pub byte-at : (s : List ℕ) (e : ℕ) → One (λ r. r ≡ getD s e 10)
-  pub is-stop : (b : ℕ) → One (λ r. r ≡ (eqb b 9 || eqb b 10))
   pub read-fields : (s : List ℕ) → One (λ r. r ≡ fieldsOf s)
   pub write-number : (n : ℕ) → One (λ r. r ≡ digitsOf n)
   -- table
@@ -98,8 +95,7 @@ pub record OneAnswer : Type 0 where
   pub states-after : (rulerows tg : List ℕ) (r from : ℕ) → One (λ x. x ≡ statesAfter rulerows tg r from)
   -- line, modelline and listingline
   pub spells : (s w : List ℕ) → One (λ r. r ≡ line.spells s w)
-  pub field-end : (s : List ℕ) → One (λ r. r ≡ length (field s))
-  pub read-behind : (s : List ℕ) (e : ℕ) → One (λ r. r ≡ line.behind s e)
+  pub read-from : (s : List ℕ) (b : ℕ) → One (λ r. r ≡ line.from s b)
   pub model-line : (s : List ℕ) → One (λ r. r ≡ modelline.lineAt s)
   pub listing-line : (s : List ℕ) → One (λ r. r ≡ listingline.lineAt s)
   -- limits and draft

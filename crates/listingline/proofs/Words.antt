@@ -4,9 +4,13 @@ use mathlib.Core.List.{List}
 use mathlib.Core.Path.{_≡_}
 use Prim.Native.Nat.{ℕ}
 use Rattle.text.specs.Split.{sameBytes}
-use Rattle.listingline.specs.declared.Word.the-variants.{Unknown}
-use Rattle.listingline.specs.Line.{safe, head, erase, wordOf}
+use Rattle.numbers.specs.declared.Numbers.{Numbers}
+use Rattle.listingline.specs.Line.{safe, head, erase, unknown, lineBy}
 
-pub unknown : (f : List ℕ) → sameBytes f erase ≡ false → sameBytes f head ≡ false → sameBytes f safe ≡ false → Unknown ≡ wordOf f
-unfolding wordOf
-unknown f e h s = rw (s, h, e)
+pub no-word : (w : List ℕ) (n : Numbers)
+    → sameBytes w erase ≡ false
+    → sameBytes w head ≡ false
+    → sameBytes w safe ≡ false
+    → lineBy w n ≡ unknown
+unfolding lineBy
+no-word w n p1 p2 p3 = rw (p3, p2, p1)

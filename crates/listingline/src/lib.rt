@@ -1,8 +1,6 @@
 // The words of a listing, and what one of its lines says: its word and its numbers.
 ghost use mathlib.Core.Path.{_≡_};
-ghost use lib.ListN.{length};
-ghost use Rattle.numbers.specs.Field.{field};
-ghost use Rattle.listingline.specs.Line.{wordOf, lineAt};
+ghost use Rattle.listingline.specs.Line.{lineAt, lineFrom};
 use numbers::Numbers;
 
 pub enum Word {
@@ -12,7 +10,7 @@ pub enum Word {
     Unknown,
 }
 
-// A line's numbers are wrong, a count of 0, where one of its fields is no number.
+// A count of 0 where the fields behind the word are wrong, or the word is unknown.
 pub struct Line {
     pub word: Word,
     pub numbers: Numbers,
@@ -24,23 +22,24 @@ pub struct LineRead {
     pub end: usize,
 }
 
-// A word and where it ends.
+// A word and where its numbers begin.
 struct Spelt(Word, usize);
 
-// The word that s begins with: nearly all lines begin with one of two, which are looked for first.
+// The word that s begins with: nearly all lines begin with one of two, which are looked for first. An unknown one has no
+// numbers: these begin past the end.
 fn word_of(s: &[u8]) -> Spelt
-    ensures { λ r. ⌜ (r .0 ≡ wordOf (field (now (s .entry)))) × (r .1 ≡ length (field (now (s .entry)))) ⌝ }
+    ensures { λ r. ⌜ lineFrom (now (s .entry)) (r .0) (r .1) ≡ lineAt (now (s .entry)) ⌝ }
 {
     if line::spells(s, b"erase") {
-        return Spelt(Word::Erase, 5);
+        return Spelt(Word::Erase, 6);
     }
     if line::spells(s, b"head") {
-        return Spelt(Word::Head, 4);
+        return Spelt(Word::Head, 5);
     }
     if line::spells(s, b"safe") {
-        return Spelt(Word::Safe, 4);
+        return Spelt(Word::Safe, 5);
     }
-    Spelt(Word::Unknown, line::field_end(s))
+    Spelt(Word::Unknown, s.len() + 1)
 }
 
 // What the line says that s begins with.
@@ -49,8 +48,8 @@ pub fn read_line(s: &[u8]) -> LineRead
 {
     let w = word_of(s);
     let word = w.0;
-    let e = w.1;
-    let f = line::read_behind(s, e);
+    let b = w.1;
+    let f = line::read_from(s, b);
     let numbers = f.numbers;
     let line = Line { word, numbers };
     LineRead { line, end: f.end }

@@ -2,8 +2,10 @@
 use mathlib.Core.List.{List, [], _∷_}
 use Prim.Native.Nat.{ℕ}
 use lib.ListN.{length}
-use Rattle.text.specs.Split.{pick, first, later, sameBytes}
-use Rattle.numbers.specs.Number.{numbersOf}
+use Rattle.text.specs.Split.{pick, first, split, sameBytes}
+use Rattle.numbers.specs.Number.{wrong, numbersOf}
+use Rattle.numbers.specs.declared.Numbers.{Numbers}
+use Rattle.line.specs.Line.{from}
 use Rattle.modelline.specs.declared.Word.{Word}
 use Rattle.modelline.specs.declared.Word.the-variants.{Size, Start, Final, Event, Exit, Direct, Call, Move, Unknown}
 use Rattle.modelline.specs.declared.Line.{Line}
@@ -41,23 +43,40 @@ call = 99 ∷ 97 ∷ 108 ∷ 108 ∷ []
 abbrev pub move : List ℕ
 move = 109 ∷ 111 ∷ 118 ∷ 101 ∷ []
 
--- the word that a field spells
-unfoldable pub wordOf : List ℕ → Word
-wordOf f =
-    pick (sameBytes f size) Size
-    (pick (sameBytes f start) Start
-    (pick (sameBytes f final) Final
-    (pick (sameBytes f event) Event
-    (pick (sameBytes f exit) Exit
-    (pick (sameBytes f direct) Direct
-    (pick (sameBytes f call) Call
-    (pick (sameBytes f move) Move
-    Unknown)))))))
+-- a line of this word with these numbers; one that begins with no word of a model text has none
+abbrev pub said : Word → Numbers → Line
+said w n = record { word = w; numbers = n }
 
--- a line by its fields, which tabs part: the word is the first, and its numbers are those of the others
-unfoldable pub lineOf : List ℕ → Line
-lineOf l = record { word = wordOf (first 9 l); numbers = numbersOf (later 9 l) }
+abbrev pub unknown : Line
+unknown = said Unknown wrong
 
--- the line that a text begins with, up to its line feed, and where it ends
+-- a line by its first field and the numbers of the others
+unfoldable pub lineBy : List ℕ → Numbers → Line
+lineBy w n =
+    pick (sameBytes w size) (said Size n)
+    (pick (sameBytes w start) (said Start n)
+    (pick (sameBytes w final) (said Final n)
+    (pick (sameBytes w event) (said Event n)
+    (pick (sameBytes w exit) (said Exit n)
+    (pick (sameBytes w direct) (said Direct n)
+    (pick (sameBytes w call) (said Call n)
+    (pick (sameBytes w move) (said Move n)
+    unknown)))))))
+
+-- a line by its fields, which tabs part: no word stands alone
+unfoldable pub lineOf : List (List ℕ) → Line
+lineOf [] = unknown
+lineOf (w ∷ []) = unknown
+lineOf (w ∷ f ∷ fs) = lineBy w (numbersOf (f ∷ fs))
+
+-- a line and where it ends
+abbrev pub ended : Line → ℕ → LineRead
+ended l e = record { line = l; end = e }
+
+-- the line that a text begins with, up to its line feed
 abbrev pub lineAt : List ℕ → LineRead
-lineAt s = record { line = lineOf (first 10 s); end = length (first 10 s) }
+lineAt s = ended (lineOf (split 9 (first 10 s))) (length (first 10 s))
+
+-- with a word, and the numbers from b on
+abbrev pub lineFrom : List ℕ → Word → ℕ → LineRead
+lineFrom s w b = ended (said w (from s b .numbers)) (from s b .end)

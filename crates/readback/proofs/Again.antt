@@ -15,7 +15,7 @@ use Rattle.product.specs.Table.{absent}
 use Rattle.table.specs.declared.Size.{Size}
 use Rattle.table.specs.Cells.{headIn, tripleIn, putHead, putTriple}
 use Rattle.table.proofs.Cells.{head-inside, triple-inside}
-use Rattle.listingline.specs.Line.{wordOf, head, erase}
+use Rattle.listingline.specs.Line.{lineBy, head, erase}
 use Rattle.rows.specs.State.{State}
 use Rattle.rows.specs.Lines.{goes, stepOf, headStep, tripleStep}
 use Rattle.ranking.specs.Rank.{largest, headInside, tripleInside}
@@ -108,12 +108,12 @@ module _ (z : Size) (some-symbol : 1 ≤ z .symbols) (some-state : 1 ≤ z .stat
   -- the line of one cell that is not held yet
   pub leads-cell : (kind : Kind) → i < many kind G Q → i < 2048 → getD (cellsIn kind s) i 0 ≡ absent
       → Leads z s (cellBytes kind G Q i rank) (holding kind s (counted kind s + 1) (set (cellsIn kind s) i rank))
-  unfolding wordOf sameBytes without stepOf
+  unfolding lineBy sameBytes without stepOf
   leads-cell Head l m a =
-      leads-line z s (holding Head s (s .heads + 1) (set (s .headcells) i rank)) head (i / G) (i % G ∷ rank ∷ []) refl tt tt (omega arith)
+      leads-line z s (holding Head s (s .heads + 1) (set (s .headcells) i rank)) head (i / G) (i % G ∷ rank ∷ []) (λ m. refl) tt tt (omega arith)
       (omega (arith, div-le-self i G), (omega (arith, mod-le i G), (omega arith, tt))) (head-line l a)
   leads-cell Triple l m a =
-      leads-line z s (holding Triple s (s .triples + 1) (set (s .triplecells) i rank)) erase (i / Q / G) (i / Q % G ∷ i % Q ∷ rank ∷ []) refl tt tt (omega arith)
+      leads-line z s (holding Triple s (s .triples + 1) (set (s .triplecells) i rank)) erase (i / Q / G) (i / Q % G ∷ i % Q ∷ rank ∷ []) (λ m. refl) tt tt (omega arith)
       (omega (arith, div-le-self i Q, div-le-self (i / Q) G), (omega (arith, div-le-self i Q, mod-le (i / Q) G), (omega (arith, mod-le i Q), (omega arith, tt)))) (triple-line l a)
 
 -- cells that are not yet filled, and one whose number stands there already

@@ -7,17 +7,15 @@ use lib.Dec.{T}
 use lib.ListN.{length, replicate}
 use lib.Seq.{append-snoc}
 use Rattle.text.specs.Split.{first, later, split, joined, without, Each}
-use Rattle.numbers.specs.Number.{most, wrong, numbersOf}
+use Rattle.numbers.specs.Number.{most}
 use Rattle.numbers.specs.Digits.{decimal}
 use Rattle.numbers.specs.declared.Numbers.{Numbers}
 use Rattle.text.proofs.Split.{split-append, without-append}
 use Rattle.numbers.proofs.Back.{without-digits, numbers-back, fields-back}
 use Rattle.product.specs.Lists.{over}
 use Rattle.table.specs.declared.Size.{Size}
-use Rattle.listingline.specs.Line.{wordOf, lineOf}
-use Rattle.listingline.specs.declared.Line.{Line}
+use Rattle.listingline.specs.Line.{said, lineBy, lineOf}
 use Rattle.listingline.specs.declared.Word.{Word}
-use Rattle.listingline.specs.declared.Word.the-variants.{Unknown}
 use Rattle.rows.specs.State.{State, Ended}
 use Rattle.rows.specs.Lines.{goes, ends, stepOf, readFrom, readLines}
 use Rattle.rows.proofs.Lines.{from-next}
@@ -40,18 +38,10 @@ fields-of w n ns h =
     ∙ split-append 9 w (joined 9 (decimal n) (map decimal ns)) h
     ∙ ap (λ l. w ∷ l) (fields-back n ns)
 
--- a line by its fields
-byFields : List (List ℕ) → Line
-byFields [] = record { word = Unknown; numbers = wrong }
-byFields (w ∷ fs) = record { word = wordOf w; numbers = numbersOf fs }
-
-line-of : (w : List ℕ) (n : ℕ) (ns : List ℕ) {k : Word} → wordOf w ≡ k → T (without 9 w) → length (n ∷ ns) ≤ most → Each (λ v. v < 100000) (n ∷ ns)
-    → lineOf (w ++ over (n ∷ ns) field) ≡ record { word = k; numbers = numbers (n ∷ ns) }
-unfolding lineOf byFields
-line-of w n ns {k} e h l s =
-    ap byFields (fields-of w n ns h)
-    ∙ ap (λ x. record { word = wordOf w; numbers = x }) (numbers-back (n ∷ ns) l s)
-    ∙ ap (λ x. record { word = x; numbers = numbers (n ∷ ns) }) e
+line-of : (w : List ℕ) (n : ℕ) (ns : List ℕ) {k : Word} → ((m : Numbers) → lineBy w m ≡ said k m) → T (without 9 w) → length (n ∷ ns) ≤ most → Each (λ v. v < 100000) (n ∷ ns)
+    → lineOf (split 9 (w ++ over (n ∷ ns) field)) ≡ said k (numbers (n ∷ ns))
+unfolding lineOf
+line-of w n ns {k} e h l s = ap lineOf (fields-of w n ns h) ∙ ap (lineBy w) (numbers-back (n ∷ ns) l s) ∙ e _
 
 no-feed : (ns : List ℕ) → T (without 10 (over ns field))
 unfolding without
@@ -74,8 +64,8 @@ leads-then {z} {s} {t} {u} {a} {b} x y = record {
 }
 
 -- a line does what its word and numbers do
-module _ (z : Size) (s t : State) (w : List ℕ) (n : ℕ) (ns : List ℕ) {k : Word} (e : wordOf w ≡ k) (h : T (without 9 w)) (g : T (without 10 w))
-    (l : length (n ∷ ns) ≤ most) (d : Each (λ v. v < 100000) (n ∷ ns)) (step : stepOf z s (record { word = k; numbers = numbers (n ∷ ns) }) ≡ goes t) where
+module _ (z : Size) (s t : State) (w : List ℕ) (n : ℕ) (ns : List ℕ) {k : Word} (e : (m : Numbers) → lineBy w m ≡ said k m) (h : T (without 9 w)) (g : T (without 10 w))
+    (l : length (n ∷ ns) ≤ most) (d : Each (λ v. v < 100000) (n ∷ ns)) (step : stepOf z s (said k (numbers (n ∷ ns))) ≡ goes t) where
   abbrev body : List ℕ
   body = w ++ over (n ∷ ns) field
 
@@ -83,7 +73,7 @@ module _ (z : Size) (s t : State) (w : List ℕ) (n : ℕ) (ns : List ℕ) {k : 
   bySplit i [] = ends 0 0 s
   bySplit i (l ∷ ls) = readFrom z i s l ls
 
-  is : stepOf z s (lineOf body) ≡ goes t
+  is : stepOf z s (lineOf (split 9 body)) ≡ goes t
   is = ap (stepOf z s) (line-of w n ns e h l d) ∙ step
 
   pub leads-line : Leads z s (lineBytes w (n ∷ ns)) t

@@ -19,7 +19,7 @@ use Rattle.numbers.proofs.Decimals.{decimal-one, decimal-more}
 use Rattle.product.specs.Lists.{over}
 use Rattle.product.specs.Table.{absent}
 use Rattle.table.specs.declared.Size.{Size}
-use Rattle.listingline.specs.Line.{wordOf, safe, head, erase}
+use Rattle.listingline.specs.Line.{lineBy, safe, head, erase}
 use Rattle.model.specs.declared.Model.{Model}
 use Rattle.model.specs.Valid.{valid}
 use Rattle.model.proofs.Valid.{Sizes, valid-sizes}
@@ -187,10 +187,10 @@ module _ (m : Model) (v : valid m ≡ true) (rounds : ℕ) (r : rounds ≤ large
   whole-state = after Triple heads-state ts (triplesOf m)
 
   leads-header : Leads (sizeOf m) startState (headerBytes rounds hs (headsOf m) ts (triplesOf m)) begun-state
-  unfolding headerBytes wordOf sameBytes without stepOf
+  unfolding headerBytes lineBy sameBytes without stepOf
   leads-header =
       let c = cells-fit m v in
-      leads-line (sizeOf m) startState begun-state safe rounds (H ∷ K ∷ []) refl tt tt (omega arith)
+      leads-line (sizeOf m) startState begun-state safe rounds (H ∷ K ∷ []) (λ m. refl) tt tt (omega arith)
       (omega arith, (omega (arith, c .heads, present-few hs (headsOf m)), (omega (arith, c .triples, present-few ts (triplesOf m)), tt)))
       (sym (safe-taken startState (numbers (rounds ∷ H ∷ K ∷ [])) refl (start-none .0) r))
 

@@ -8,7 +8,7 @@ use native.Mathlib.Omega.{arith}
 use lib.Dec.{T, eqb, ltb}
 use lib.ListN.{length}
 use borrow.Author.Tests.{eqb-true, eqb-false, lt-ltb, le-leb}
-use Rattle.text.specs.Split.{pick, first, later}
+use Rattle.text.specs.Split.{pick, first, later, split}
 use Rattle.product.specs.Lists.{upTo, all}
 use Rattle.product.proofs.Lists.{All-upTo, all-of, both}
 use Rattle.modelline.specs.Line.{lineOf}
@@ -78,13 +78,13 @@ read-right n {s} d l [] h = go (ltb 0 (length l))
     go true e = never (cc)
     go false e = finished-right h e
 read-right n {s} d l (k ∷ ls) h =
-    go (λ g. read-right (n + 1) (takeLine d (lineOf l) .draft) k ls (inr g)) (eqb (takeLine d (lineOf l) .refusal) 0) refl
+    go (λ g. read-right (n + 1) (takeLine d (lineOf (split 9 l)) .draft) k ls (inr g)) (eqb (takeLine d (lineOf (split 9 l)) .refusal) 0) refl
   where
-    go : (Good (andLine s (lineOf l)) (takeLine d (lineOf l) .draft)
-        → Right (gathered (andLine s (lineOf l)) k ls) (readFrom (n + 1) (takeLine d (lineOf l) .draft) k ls)) → (b : Bool) → eqb (takeLine d (lineOf l) .refusal) 0 ≡ b
-        → Right (gathered s l (k ∷ ls)) (pick b (readFrom (n + 1) (takeLine d (lineOf l) .draft) k ls) (refused (numbered (takeLine d (lineOf l) .refusal) n)))
-    go rest true p = rest (line-kept (lineOf l) h (eqb-true _ 0 p))
-    go rest false p = numbered-right (takeLine d (lineOf l) .refusal) n
+    go : (Good (andLine s (lineOf (split 9 l))) (takeLine d (lineOf (split 9 l)) .draft)
+        → Right (gathered (andLine s (lineOf (split 9 l))) k ls) (readFrom (n + 1) (takeLine d (lineOf (split 9 l)) .draft) k ls)) → (b : Bool) → eqb (takeLine d (lineOf (split 9 l)) .refusal) 0 ≡ b
+        → Right (gathered s l (k ∷ ls)) (pick b (readFrom (n + 1) (takeLine d (lineOf (split 9 l)) .draft) k ls) (refused (numbered (takeLine d (lineOf (split 9 l)) .refusal) n)))
+    go rest true p = rest (line-kept (lineOf (split 9 l)) h (eqb-true _ 0 p))
+    go rest false p = numbered-right (takeLine d (lineOf (split 9 l)) .refusal) n
 
 pub accepted-right : (s : List ℕ) → Right (said s) (readModel s)
 unfolding readModel said

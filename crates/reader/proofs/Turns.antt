@@ -6,7 +6,7 @@ use Prim.Native.Nat.{ℕ, _+_, _<_, _≤_}
 use native.Mathlib.Omega.{arith}
 use lib.ListN.{length, replicate}
 use borrow.Author.Tests.{eq-eqb, ne-eqb, lt-ltb, le-ltb}
-use Rattle.text.specs.Split.{first, later}
+use Rattle.text.specs.Split.{first, later, split}
 use Rattle.text.proofs.Split.{after, after-shorter, later-after, no-later, whole-piece}
 use Rattle.modelline.specs.declared.LineRead.{LineRead}
 use Rattle.modelline.specs.Line.{lineOf, lineAt}
@@ -44,7 +44,7 @@ module _ {text : List ℕ} {d : Draft} {l : List ℕ} {n : ℕ} (i : Turn text d
     open-line z h = sym (last found h ∙ rw (lt-ltb _ _ z)) ∙ i .left
 
     module _ (h : x .end < length l) {t : Taken} (q : t ≡ takeLine d (x .line)) where
-      taken : t ≡ takeLine d (lineOf (first 10 l))
+      taken : t ≡ takeLine d (lineOf (split 9 (first 10 l)))
       taken = q ∙ ap (λ (y : LineRead). takeLine d (y .line)) p
 
       pub refused-turn : (t .refusal ≡ 0 → ⊥) → refused (numbered (t .refusal) n) ≡ readAll 1 fresh text

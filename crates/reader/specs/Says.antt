@@ -4,7 +4,7 @@ use mathlib.Core.List.{List, [], _∷_, _++_}
 use mathlib.Core.Path.{_≡_}
 use Prim.Native.Nat.{ℕ, _<_}
 use lib.Dec.{eqb}
-use Rattle.text.specs.Split.{first, later}
+use Rattle.text.specs.Split.{first, later, split}
 use Rattle.numbers.specs.Number.{nth}
 use Rattle.numbers.specs.declared.Numbers.{Numbers}
 use Rattle.modelline.specs.declared.Line.{Line}
@@ -65,7 +65,7 @@ andLine s l = more s (l .word) (l .numbers)
 -- the pieces between line feeds, of which all but the last are lines
 abbrev pub gathered : Said → List ℕ → List (List ℕ) → Said
 gathered s l [] = s
-gathered s l (k ∷ ls) = gathered (andLine s (lineOf l)) k ls
+gathered s l (k ∷ ls) = gathered (andLine s (lineOf (split 9 l))) k ls
 
 -- what the lines of a text say
 unfoldable pub said : List ℕ → Said

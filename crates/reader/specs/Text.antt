@@ -3,7 +3,7 @@ use mathlib.Core.List.{List, [], _∷_}
 use Prim.Native.Nat.{ℕ, _+_}
 use lib.Dec.{eqb, ltb}
 use lib.ListN.{length}
-use Rattle.text.specs.Split.{pick, first, later}
+use Rattle.text.specs.Split.{pick, first, later, split}
 use Rattle.modelline.specs.Line.{lineOf}
 use Rattle.draft.specs.declared.Outline.{Outline}
 use Rattle.draft.specs.Draft.{Draft}
@@ -31,9 +31,9 @@ finished d = pick (eqb (d .started) 0) (refused (Misplaced 0)) (record { reading
 unfoldable pub readFrom : ℕ → Draft → List ℕ → List (List ℕ) → ModelRead
 readFrom n d l [] = pick (ltb 0 (length l)) (refused (Malformed n)) (finished d)
 readFrom n d l (k ∷ ls) =
-    pick (eqb (takeLine d (lineOf l) .refusal) 0)
-    (readFrom (n + 1) (takeLine d (lineOf l) .draft) k ls)
-    (refused (numbered (takeLine d (lineOf l) .refusal) n))
+    pick (eqb (takeLine d (lineOf (split 9 l)) .refusal) 0)
+    (readFrom (n + 1) (takeLine d (lineOf (split 9 l)) .draft) k ls)
+    (refused (numbered (takeLine d (lineOf (split 9 l)) .refusal) n))
 
 unfoldable pub readModel : List ℕ → ModelRead
 readModel s = pick (ltb 16384 (length s)) (refused TooLong) (readFrom 1 fresh (first 10 s) (later 10 s))

@@ -8,7 +8,7 @@ use lib.Dec.{T, eqb, ltb}
 use lib.ListN.{length}
 use lib.Seq.{sets}
 use borrow.Author.Tests.{ltb-false}
-use Rattle.text.specs.Split.{pick, first, later}
+use Rattle.text.specs.Split.{pick, first, later, split}
 use Rattle.modelline.specs.Line.{lineOf}
 use Rattle.model.specs.declared.Model.{Model}
 use Rattle.model.specs.Valid.{valid}
@@ -52,12 +52,12 @@ line-within n d l [] = go (ltb 0 (length l)) (eqb (d .started) 0)
     go false true = omega arith
     go false false = omega arith
 line-within n d l (k ∷ ls) =
-    go (line-within (n + 1) (takeLine d (lineOf l) .draft) k ls) (eqb (takeLine d (lineOf l) .refusal) 0)
+    go (line-within (n + 1) (takeLine d (lineOf (split 9 l)) .draft) k ls) (eqb (takeLine d (lineOf (split 9 l)) .refusal) 0)
   where
-    go : lineIn (readFrom (n + 1) (takeLine d (lineOf l) .draft) k ls .reading) ≤ n + 1 + length ls → (b : Bool)
-        → lineIn (pick b (readFrom (n + 1) (takeLine d (lineOf l) .draft) k ls) (refused (numbered (takeLine d (lineOf l) .refusal) n)) .reading) ≤ n + length (k ∷ ls)
+    go : lineIn (readFrom (n + 1) (takeLine d (lineOf (split 9 l)) .draft) k ls .reading) ≤ n + 1 + length ls → (b : Bool)
+        → lineIn (pick b (readFrom (n + 1) (takeLine d (lineOf (split 9 l)) .draft) k ls) (refused (numbered (takeLine d (lineOf (split 9 l)) .refusal) n)) .reading) ≤ n + length (k ∷ ls)
     go h true = omega arith
-    go h false = omega (arith, numbered-line (takeLine d (lineOf l) .refusal) n)
+    go h false = omega (arith, numbered-line (takeLine d (lineOf (split 9 l)) .refusal) n)
 
 pub line-small : (s : List ℕ) → lineIn (readModel s .reading) < 65536
 unfolding readModel

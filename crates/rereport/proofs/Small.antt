@@ -9,7 +9,7 @@ use native.Mathlib.Omega.{arith}
 use lib.Dec.{T, eqb, ltb}
 use lib.ListN.{length}
 use borrow.Author.Tests.{ltb-false, le-leb}
-use Rattle.text.specs.Split.{pick, first, later}
+use Rattle.text.specs.Split.{pick, first, later, split}
 use Rattle.listingline.specs.Line.{lineOf}
 use Rattle.product.specs.Lists.{All, upTo, each, find}
 use Rattle.product.specs.Product.{Step}
@@ -42,10 +42,10 @@ line-within z n s l [] = go (ltb 0 (length l))
     go true = omega arith
     go false = omega arith
 line-within z n s l (k ∷ ls) =
-    go (line-within z (n + 1) (stepOf z s (lineOf l) .state) k ls) (eqb (stepOf z s (lineOf l) .refusal) 0)
+    go (line-within z (n + 1) (stepOf z s (lineOf (split 9 l)) .state) k ls) (eqb (stepOf z s (lineOf (split 9 l)) .refusal) 0)
   where
-    go : readFrom z (n + 1) (stepOf z s (lineOf l) .state) k ls .line ≤ n + 1 + length ls → (b : Bool)
-        → pick b (readFrom z (n + 1) (stepOf z s (lineOf l) .state) k ls) (ends (stepOf z s (lineOf l) .refusal) n s) .line ≤ n + length (k ∷ ls)
+    go : readFrom z (n + 1) (stepOf z s (lineOf (split 9 l)) .state) k ls .line ≤ n + 1 + length ls → (b : Bool)
+        → pick b (readFrom z (n + 1) (stepOf z s (lineOf (split 9 l)) .state) k ls) (ends (stepOf z s (lineOf (split 9 l)) .refusal) n s) .line ≤ n + length (k ∷ ls)
     go h true = omega arith
     go h false = omega arith
 

@@ -24,11 +24,11 @@ pub record Turn (z : Size) (text : List ℕ) (s₀ s : State) (rest : List ℕ) 
   pub left : readLines z line s rest ≡ readLines z 1 s₀ text
 
 module _ (z : Size) (s : State) (n : ℕ) where
-  from-refused : (l k : List ℕ) (ls : List (List ℕ)) → (stepOf z s (lineOf l) .refusal ≡ 0 → ⊥) → readFrom z n s l (k ∷ ls) ≡ ends (stepOf z s (lineOf l) .refusal) n s
+  from-refused : (l k : List ℕ) (ls : List (List ℕ)) → (stepOf z s (lineOf (split 9 l)) .refusal ≡ 0 → ⊥) → readFrom z n s l (k ∷ ls) ≡ ends (stepOf z s (lineOf (split 9 l)) .refusal) n s
   unfolding readFrom
   from-refused l k ls h = rw (ne-eqb _ _ h)
 
-  pub from-next : (l k : List ℕ) (ls : List (List ℕ)) → stepOf z s (lineOf l) .refusal ≡ 0 → readFrom z n s l (k ∷ ls) ≡ readFrom z (n + 1) (stepOf z s (lineOf l) .state) k ls
+  pub from-next : (l k : List ℕ) (ls : List (List ℕ)) → stepOf z s (lineOf (split 9 l)) .refusal ≡ 0 → readFrom z n s l (k ∷ ls) ≡ readFrom z (n + 1) (stepOf z s (lineOf (split 9 l)) .state) k ls
   unfolding readFrom
   from-next l k ls h = rw (eq-eqb _ _ h)
 
@@ -49,7 +49,7 @@ module _ {z : Size} {text : List ℕ} {s₀ s : State} {l : List ℕ} {n : ℕ} 
     found = ap (λ (y : LineRead). y .end) p
 
     module _ (h : x .end < length l) {t : Step} (q : t ≡ stepOf z s (x .line)) where
-      is : t ≡ stepOf z s (lineOf (first 10 l))
+      is : t ≡ stepOf z s (lineOf (split 9 (first 10 l)))
       is = q ∙ ap (λ (y : LineRead). stepOf z s (y .line)) p
 
       lines : readLines z n s l ≡ readFrom z n s (first 10 l) (split 10 (after (x .end) l))

@@ -3,7 +3,7 @@ use mathlib.Core.List.{List, [], _∷_}
 use Prim.Native.Nat.{ℕ, _+_}
 use lib.Dec.{eqb, ltb}
 use lib.ListN.{length, replicate}
-use Rattle.text.specs.Split.{pick, first, later}
+use Rattle.text.specs.Split.{pick, first, later, split}
 use Rattle.product.specs.Table.{absent}
 use Rattle.table.specs.declared.Size.{Size}
 use Rattle.ranking.specs.Rank.{largest, headFault, headPut, tripleFault, triplePut}
@@ -110,9 +110,9 @@ finished s = ends (agreement (s .begun) (s .heads) (s .headcount) (s .triples) (
 unfoldable pub readFrom : Size → ℕ → State → List ℕ → List (List ℕ) → Ended
 readFrom z n s l [] = pick (ltb 0 (length l)) (ends 2 n s) (finished s)
 readFrom z n s l (k ∷ ls) =
-    pick (eqb (stepOf z s (lineOf l) .refusal) 0)
-    (readFrom z (n + 1) (stepOf z s (lineOf l) .state) k ls)
-    (ends (stepOf z s (lineOf l) .refusal) n s)
+    pick (eqb (stepOf z s (lineOf (split 9 l)) .refusal) 0)
+    (readFrom z (n + 1) (stepOf z s (lineOf (split 9 l)) .state) k ls)
+    (ends (stepOf z s (lineOf (split 9 l)) .refusal) n s)
 
 -- the lines of a text, from line n on
 abbrev pub readLines : Size → ℕ → State → List ℕ → Ended

@@ -1,20 +1,18 @@
 -- `listingline::read_line` meets its contract. Assumes nothing.
-use Rattle.line.proofs.Words.{line-by}
-use Rattle.listingline.specs.Line.{wordOf, lineOf}
+use mathlib.Core.Path.{ap, _∙_}
+use Rattle.listingline.specs.Line.{said, ended}
+use Rattle.numbers.specs.declared.FieldsRead.{FieldsRead}
 use Rattle.listingline.proofs.read_line.Statement.{statement}
 use Rattle.listingline.proofs.read_line.Tie as tie
 
 word-of-requires : tie.Need-word-of-requires
 word-of-requires c κs = tt
 
-read-behind-requires : tie.Need-read-behind-requires
-read-behind-requires c κs = tt
+read-from-requires : tie.Need-read-from-requires
+read-from-requires c κs = tt
 
 returns : tie.Need-returns
-unfolding lineOf
-returns c =
-    let w = c .before .before in
-    line-by wordOf (λ v n. record { line = record { word = v; numbers = n .numbers }; end = n .end }) (w .before .before .args .s .now) (w .word-of .ensures) (c .before .read-behind .ensures)
+returns c = let w = c .before .before in ap (λ (f : FieldsRead). ended (said (w .word-of .result .0) (f .numbers)) (f .end)) (c .before .read-from .ensures) ∙ w .word-of .ensures
 
 pub read-line-spec : {M : Type 1} → statement M
-read-line-spec = tie.close (tie.spec word-of-requires read-behind-requires returns)
+read-line-spec = tie.close (tie.spec word-of-requires read-from-requires returns)

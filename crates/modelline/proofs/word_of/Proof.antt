@@ -1,10 +1,12 @@
--- `modelline::word_of` meets its contract: a word that is spelled is the first field, and where none is, it is unknown (Words). Assumes nothing.
+-- `modelline::word_of` meets its contract: a word that is spelled is the first field, and where none is, it is unknown. Assumes nothing.
 use mathlib.Core.Path.{refl}
 use Rattle.text.specs.Split.{without, sameBytes}
-use Rattle.line.proofs.Spelled.{field-is, field-not}
-use Rattle.line.proofs.Words.{known}
-use Rattle.modelline.specs.Line.{size, start, final, event, exit, direct, call, move, wordOf}
-use Rattle.modelline.proofs.Words.{unknown}
+use Rattle.line.proofs.Spelled.{begins, differs}
+use Rattle.line.proofs.Behind.{known, unknown}
+use Rattle.modelline.specs.declared.Word.the-variants.{Size, Start, Final, Event, Exit, Direct, Call, Move, Unknown}
+use Rattle.modelline.specs.Line.{size, start, final, event, exit, direct, call, move, said, lineBy, lineOf, ended}
+use Rattle.modelline.proofs.Words.{no-word}
+use borrow.Author.Needs.{needs}
 use Rattle.modelline.proofs.word_of.Statement.{statement}
 use Rattle.modelline.proofs.word_of.Tie as tie
 
@@ -15,8 +17,8 @@ spells-requires : tie.Need-spells-requires
 spells-requires c κs = tt
 
 returns : tie.Need-returns
-unfolding wordOf sameBytes without
-returns c = known wordOf (field-is _ size tt tt (c .before .spells .ensures) (c .if1 .taken)) refl
+unfolding lineOf lineBy sameBytes without
+returns c = known lineOf ended _ size (begins _ size tt tt (c .before .spells .ensures) (c .if1 .taken)) (said Size) (λ f fs. refl)
 
 slice-aggregate-spells-2 : tie.Need-slice-aggregate-spells-2
 slice-aggregate-spells-2 c = refl
@@ -25,8 +27,8 @@ spells-requires-2 : tie.Need-spells-requires-2
 spells-requires-2 c κs = tt
 
 returns-2 : tie.Need-returns-2
-unfolding wordOf sameBytes without
-returns-2 c = known wordOf (field-is _ start tt tt (c .before .spells2 .ensures) (c .if2 .taken)) refl
+unfolding lineOf lineBy sameBytes without
+returns-2 c = known lineOf ended _ start (begins _ start tt tt (c .before .spells2 .ensures) (c .if2 .taken)) (said Start) (λ f fs. refl)
 
 slice-aggregate-spells-3 : tie.Need-slice-aggregate-spells-3
 slice-aggregate-spells-3 c = refl
@@ -35,8 +37,8 @@ spells-requires-3 : tie.Need-spells-requires-3
 spells-requires-3 c κs = tt
 
 returns-3 : tie.Need-returns-3
-unfolding wordOf sameBytes without
-returns-3 c = known wordOf (field-is _ final tt tt (c .before .spells3 .ensures) (c .if3 .taken)) refl
+unfolding lineOf lineBy sameBytes without
+returns-3 c = known lineOf ended _ final (begins _ final tt tt (c .before .spells3 .ensures) (c .if3 .taken)) (said Final) (λ f fs. refl)
 
 slice-aggregate-spells-4 : tie.Need-slice-aggregate-spells-4
 slice-aggregate-spells-4 c = refl
@@ -45,8 +47,8 @@ spells-requires-4 : tie.Need-spells-requires-4
 spells-requires-4 c κs = tt
 
 returns-4 : tie.Need-returns-4
-unfolding wordOf sameBytes without
-returns-4 c = known wordOf (field-is _ event tt tt (c .before .spells4 .ensures) (c .if4 .taken)) refl
+unfolding lineOf lineBy sameBytes without
+returns-4 c = known lineOf ended _ event (begins _ event tt tt (c .before .spells4 .ensures) (c .if4 .taken)) (said Event) (λ f fs. refl)
 
 slice-aggregate-spells-5 : tie.Need-slice-aggregate-spells-5
 slice-aggregate-spells-5 c = refl
@@ -55,8 +57,8 @@ spells-requires-5 : tie.Need-spells-requires-5
 spells-requires-5 c κs = tt
 
 returns-5 : tie.Need-returns-5
-unfolding wordOf sameBytes without
-returns-5 c = known wordOf (field-is _ exit tt tt (c .before .spells5 .ensures) (c .if5 .taken)) refl
+unfolding lineOf lineBy sameBytes without
+returns-5 c = known lineOf ended _ exit (begins _ exit tt tt (c .before .spells5 .ensures) (c .if5 .taken)) (said Exit) (λ f fs. refl)
 
 slice-aggregate-spells-6 : tie.Need-slice-aggregate-spells-6
 slice-aggregate-spells-6 c = refl
@@ -65,8 +67,8 @@ spells-requires-6 : tie.Need-spells-requires-6
 spells-requires-6 c κs = tt
 
 returns-6 : tie.Need-returns-6
-unfolding wordOf sameBytes without
-returns-6 c = known wordOf (field-is _ direct tt tt (c .before .spells6 .ensures) (c .if6 .taken)) refl
+unfolding lineOf lineBy sameBytes without
+returns-6 c = known lineOf ended _ direct (begins _ direct tt tt (c .before .spells6 .ensures) (c .if6 .taken)) (said Direct) (λ f fs. refl)
 
 slice-aggregate-spells-7 : tie.Need-slice-aggregate-spells-7
 slice-aggregate-spells-7 c = refl
@@ -75,8 +77,8 @@ spells-requires-7 : tie.Need-spells-requires-7
 spells-requires-7 c κs = tt
 
 returns-7 : tie.Need-returns-7
-unfolding wordOf sameBytes without
-returns-7 c = known wordOf (field-is _ call tt tt (c .before .spells7 .ensures) (c .if7 .taken)) refl
+unfolding lineOf lineBy sameBytes without
+returns-7 c = known lineOf ended _ call (begins _ call tt tt (c .before .spells7 .ensures) (c .if7 .taken)) (said Call) (λ f fs. refl)
 
 slice-aggregate-spells-8 : tie.Need-slice-aggregate-spells-8
 slice-aggregate-spells-8 c = refl
@@ -85,34 +87,33 @@ spells-requires-8 : tie.Need-spells-requires-8
 spells-requires-8 c κs = tt
 
 returns-8 : tie.Need-returns-8
-unfolding wordOf sameBytes without
-returns-8 c = known wordOf (field-is _ move tt tt (c .before .spells8 .ensures) (c .if8 .taken)) refl
+unfolding lineOf lineBy sameBytes without
+returns-8 c = known lineOf ended _ move (begins _ move tt tt (c .before .spells8 .ensures) (c .if8 .taken)) (said Move) (λ f fs. refl)
 
-field-end-requires : tie.Need-field-end-requires
-field-end-requires c κs = tt
+add-t44 : tie.Need-add-t44
+add-t44 c = search needs
 
 returns-9 : tie.Need-returns-9
-unfolding without
+unfolding lineOf without
 returns-9 c =
-    let move1 = c .before in
-    let call1 = move1 .before .before .before in
-    let direct1 = call1 .before .before .before in
-    let exit1 = direct1 .before .before .before in
-    let event1 = exit1 .before .before .before in
-    let final1 = event1 .before .before .before in
-    let start1 = final1 .before .before .before in
-    let size1 = start1 .before .before .before in (
-      unknown _
-          (field-not _ size tt tt (size1 .before .spells .ensures) (size1 .if1 .left))
-          (field-not _ start tt tt (start1 .before .spells2 .ensures) (start1 .if2 .left))
-          (field-not _ final tt tt (final1 .before .spells3 .ensures) (final1 .if3 .left))
-          (field-not _ event tt tt (event1 .before .spells4 .ensures) (event1 .if4 .left))
-          (field-not _ exit tt tt (exit1 .before .spells5 .ensures) (exit1 .if5 .left))
-          (field-not _ direct tt tt (direct1 .before .spells6 .ensures) (direct1 .if6 .left))
-          (field-not _ call tt tt (call1 .before .spells7 .ensures) (call1 .if7 .left))
-          (field-not _ move tt tt (move1 .before .spells8 .ensures) (move1 .if8 .left)),
-      c .field-end .ensures,
-    )
+    let not-move = c in
+    let not-call = not-move .before .before .before in
+    let not-direct = not-call .before .before .before in
+    let not-exit = not-direct .before .before .before in
+    let not-event = not-exit .before .before .before in
+    let not-final = not-event .before .before .before in
+    let not-start = not-final .before .before .before in
+    let not-size = not-start .before .before .before in
+    unknown lineOf ended _ (said Unknown) (λ w. refl) (λ on f fs.
+    no-word _ _
+    (differs _ size tt tt (not-size .before .spells .ensures) (not-size .if1 .left) on)
+    (differs _ start tt tt (not-start .before .spells2 .ensures) (not-start .if2 .left) on)
+    (differs _ final tt tt (not-final .before .spells3 .ensures) (not-final .if3 .left) on)
+    (differs _ event tt tt (not-event .before .spells4 .ensures) (not-event .if4 .left) on)
+    (differs _ exit tt tt (not-exit .before .spells5 .ensures) (not-exit .if5 .left) on)
+    (differs _ direct tt tt (not-direct .before .spells6 .ensures) (not-direct .if6 .left) on)
+    (differs _ call tt tt (not-call .before .spells7 .ensures) (not-call .if7 .left) on)
+    (differs _ move tt tt (not-move .before .spells8 .ensures) (not-move .if8 .left) on))
 
 pub word-of-spec : {M : Type 1} → statement M
 word-of-spec =
@@ -142,5 +143,5 @@ word-of-spec =
     slice-aggregate-spells-8
     spells-requires-8
     returns-8
-    field-end-requires
+    add-t44
     returns-9)
