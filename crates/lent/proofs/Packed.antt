@@ -1,7 +1,7 @@
 -- The bytes of a record: copied part by part, each part is read as it was put. Assumes nothing.
 use mathlib.Core.Bool.{Bool, true, false}
 use mathlib.Core.List.{List, [], _∷_, _++_, map, map-append}
-use mathlib.Core.Path.{_≡_, refl, sym, ap, ap₂, _∙_}
+use mathlib.Core.Path.{_≡_, refl, sym, ap, ap₂, _∙_, subst⁻¹}
 use Prim.Native.Nat.{ℕ, _+_, _-_, _*_, _/_, _%_, _<_, _≤_}
 use native.Mathlib.Numerals.{add-one}
 use native.Mathlib.Omega.{arith}
@@ -144,3 +144,6 @@ lends m cells v e =
     let r : m .rules % 65536 ≡ m .rules = omega arith in
     let k : m .moves % 256 ≡ m .moves = omega arith in
     e ∙ rw (r, k)
+
+pub lent-valid : (m : Model) (cells : List ℕ) → T (valid m) → modelIn cells ≡ held m → T (valid (modelIn cells))
+lent-valid m cells v e = subst⁻¹ (λ m. T (valid m)) (lends m cells v e) v

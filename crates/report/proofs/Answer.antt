@@ -97,9 +97,6 @@ module _ (m : Model) (v : T (valid m)) {z : Size} (read : z ≡ sizeOf m) where
 
 -- a valid record, lent
 module _ (m : Model) (v : T (valid m)) (cells : List ℕ) (lent : modelIn cells ≡ held m) where
-  pub lent-valid : T (valid (modelIn cells))
-  lent-valid = subst⁻¹ (λ m. T (valid m)) (lends m cells v lent) v
-
   pub lent-put : {o p : List ℕ} {a b : ℕ} → Put o p a b (modelOutput (modelIn cells)) → Put o p a b (modelOutput m)
   lent-put = as-put (ap modelOutput (lends m cells v lent))
 

@@ -1,10 +1,11 @@
 -- `report::check_text` meets its contract. Assumes nothing.
 use mathlib.Core.Path.{_∙_}
 use borrow.Author.Needs.{needs}
+use Rattle.lent.proofs.Packed.{lent-valid}
 use Rattle.text.proofs.Puts.{put-length}
 use Rattle.refusal.proofs.Reading.{model-valid, accepted-put, refused-put}
 use Rattle.report.specs.Output.{modelOutput}
-use Rattle.report.proofs.Answer.{lent-valid, lent-put}
+use Rattle.report.proofs.Answer.{lent-put}
 use Rattle.report.proofs.check_text.Statement.{statement}
 use Rattle.report.proofs.check_text.Tie as tie
 
@@ -20,7 +21,7 @@ put-model-requires c κs =
     let tested = lent .before in
     let seen = tested .before .before .before in
     let valid = model-valid (seen .read-or-refuse .ensures) (tested .if1 .taken) in
-    lent-valid _ valid (lent .lend .result) (lent .lend .ensures)
+    lent-valid _ (lent .lend .result) valid (lent .lend .ensures)
 
 same-length : tie.Need-same-length
 same-length c =
