@@ -1,55 +1,40 @@
+-- `decide::decide_parts` meets its contract. Assumes nothing.
 use Rattle.model.specs.Valid.{ofParts}
 use Rattle.decide.proofs.Tested.{of-parts, invalid, short, able, done}
-use native.Mathlib.Omega.{arith}
 use borrow.Author.Needs.{needs}
 use Rattle.decide.proofs.decide_parts.Statement.{statement}
 use Rattle.decide.proofs.decide_parts.Tie as tie
-use Rattle.decide.proofs.decide_parts.Reads as reads
-use Rattle.decide.proofs.decide_parts.Lts as lts
-use Rattle.decide.proofs.run.Reads as run-reads
-use Rattle.model.proofs.parts_valid.Reads as parts-valid-reads
-use Rattle.table.proofs.long_enough.Reads as long-enough-reads
 
--- src/lib.rt:103:9
 parts-valid-requires : tie.Need-parts-valid-requires
 parts-valid-requires c κs = search needs
 
--- src/lib.rt:104:9
 returns : tie.Need-returns
 returns c = let a = c .before .before .before .before .args in let m = ofParts (a .shape) (a .rulerows .now) (a .moverows .now) (a .shows .now) (a .finals .now) in
     invalid m (a .budget) (a .heads .now) (a .triples .now) (of-parts m (c .before .parts-valid .ensures)) (c .if1 .taken)
 
--- src/lib.rt:110:9
 long-enough-requires : tie.Need-long-enough-requires
 long-enough-requires c κs = search needs
 
--- src/lib.rt:111:9
 same-length : tie.Need-same-length
 same-length c = search needs
 
--- src/lib.rt:111:9
 same-length-2 : tie.Need-same-length-2
 same-length-2 c = search needs
 
--- src/lib.rt:111:9
 returns-2 : tie.Need-returns-2
 returns-2 c = let tested = c .before .before .before .before in let a = tested .before .before .before .before .args in let m = ofParts (a .shape) (a .rulerows .now) (a .moverows .now) (a .shows .now) (a .finals .now) in
     short m (a .budget) (a .heads .now) (a .triples .now) (of-parts m (tested .before .parts-valid .ensures)) (tested .if1 .left) (c .before .long-enough .ensures) (c .if2 .taken)
 
--- src/lib.rt:113:5
 run-requires : tie.Need-run-requires
 run-requires c κs = let long = c .before .before in let tested = long .before .before .before .before in let a = tested .before .before .before .before .args in let m = ofParts (a .shape) (a .rulerows .now) (a .moverows .now) (a .shows .now) (a .finals .now) in
     able m (a .budget) (a .heads .now) (a .triples .now) (of-parts m (tested .before .parts-valid .ensures)) (tested .if1 .left) (long .before .long-enough .ensures) (long .if2 .left)
 
--- src/lib.rt:91:1
 same-length-3 : tie.Need-same-length-3
 same-length-3 c = search needs
 
--- src/lib.rt:91:1
 same-length-4 : tie.Need-same-length-4
 same-length-4 c = search needs
 
--- src/lib.rt:91:1
 returns-3 : tie.Need-returns-3
 returns-3 c = let long = c .before .before .before .before .before .before .before in let tested = long .before .before .before .before in let a = tested .before .before .before .before .args in let m = ofParts (a .shape) (a .rulerows .now) (a .moverows .now) (a .shows .now) (a .finals .now) in
     done m (a .budget) (a .heads .now) (a .triples .now) (of-parts m (tested .before .parts-valid .ensures)) (tested .if1 .left) (long .before .long-enough .ensures) (long .if2 .left) (c .before .before .before .before .run .ensures)

@@ -1,58 +1,42 @@
+-- `decide::run` meets its contract. Assumes nothing.
 use Rattle.model.specs.Valid.{ofParts}
 use Rattle.model.proofs.Valid.{valid-sizes}
 use Rattle.decide.proofs.Emptied.{empty-first}
 use Rattle.decide.proofs.Starting.{symbol-in, driving, heads-same, triples-same, ran}
-use native.Mathlib.Omega.{arith}
 use borrow.Author.Needs.{needs}
 use Rattle.decide.proofs.run.Statement.{statement}
 use Rattle.decide.proofs.run.Tie as tie
-use Rattle.decide.proofs.run.Reads as reads
-use Rattle.decide.proofs.run.Lts as lts
-use Rattle.decide.proofs.build.first_rules.Reads as first-rules-reads
-use Rattle.decide.proofs.build.goal_of.Reads as goal-of-reads
-use Rattle.decide.proofs.rounds.run.Reads as run-reads
-use Rattle.decide.proofs.start.Reads as start-reads
-use Rattle.steps.proofs.class_steps.Reads as class-steps-reads
 
--- src/lib.rt:72:9
 goal-of-requires : tie.Need-goal-of-requires
 goal-of-requires c κs = search needs
 
--- src/lib.rt:73:5
 start-requires : tie.Need-start-requires
 start-requires c κs = search needs
 
--- src/lib.rt:74:63
 cast-class-steps : tie.Need-cast-class-steps
 cast-class-steps c = search needs
 
--- src/lib.rt:74:14
 class-steps-requires : tie.Need-class-steps-requires
 class-steps-requires c κs = search needs
 
--- src/lib.rt:76:9
 first-rules-requires : tie.Need-first-rules-requires
 first-rules-requires c κs = let s = c .before .before .before .before .before .before .before .before .before .before .before .before .before in let v = s .pre .valid-model in (valid-sizes _ v .rules, (symbol-in _ v (c .before .before .before .before .before .before .before .before .before .before .goal-of .ensures), empty-first 384))
 
--- src/lib.rt:77:5
 run-requires : tie.Need-run-requires
 run-requires c κs = let built = c .before .before .before .before in let begun = built .before .before .before .before .before .before .before .before in let goal = begun .before .before .before in let s = goal .before .before .before in
     let m = ofParts (s .args .shape) (s .args .rulerows .now) (s .args .moverows .now) (s .args .shows .now) (s .args .finals .now) in
     driving m (s .pre .valid-model) (s .pre) (goal .goal-of .ensures) (begun .start .ensures) (built .first-rules .ensures) (built .before .before .class-steps .ensures)
 
--- src/lib.rt:55:1
 same-length : tie.Need-same-length
 same-length c = let built = c .before .before .before .before .before .before .before .before .before in let begun = built .before .before .before .before .before .before .before .before in let goal = begun .before .before .before in let s = goal .before .before .before in
     let m = ofParts (s .args .shape) (s .args .rulerows .now) (s .args .moverows .now) (s .args .shows .now) (s .args .finals .now) in
     heads-same m (s .pre .valid-model) (s .pre) (goal .goal-of .ensures) (begun .start .ensures) (built .first-rules .ensures) (built .before .before .class-steps .ensures) (c .before .before .before .before .run .ensures)
 
--- src/lib.rt:55:1
 same-length-2 : tie.Need-same-length-2
 same-length-2 c = let built = c .before .before .before .before .before .before .before .before .before in let begun = built .before .before .before .before .before .before .before .before in let goal = begun .before .before .before in let s = goal .before .before .before in
     let m = ofParts (s .args .shape) (s .args .rulerows .now) (s .args .moverows .now) (s .args .shows .now) (s .args .finals .now) in
     triples-same m (s .pre .valid-model) (s .pre) (goal .goal-of .ensures) (begun .start .ensures) (built .first-rules .ensures) (built .before .before .class-steps .ensures) (c .before .before .before .before .run .ensures)
 
--- src/lib.rt:55:1
 returns : tie.Need-returns
 returns c = let built = c .before .before .before .before .before .before .before .before .before in let begun = built .before .before .before .before .before .before .before .before in let goal = begun .before .before .before in let s = goal .before .before .before in
     let m = ofParts (s .args .shape) (s .args .rulerows .now) (s .args .moverows .now) (s .args .shows .now) (s .args .finals .now) in
