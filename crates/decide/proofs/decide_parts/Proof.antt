@@ -22,11 +22,18 @@ same-length-2 : tie.Need-same-length-2
 same-length-2 c = search needs
 
 returns-2 : tie.Need-returns-2
-returns-2 c = let tested = c .before .before .before .before in let a = tested .before .before .before .before .args in let m = ofParts (a .shape) (a .rulerows .now) (a .moverows .now) (a .shows .now) (a .finals .now) in
+returns-2 c =
+    let tested = c .before .before .before .before in
+    let a = tested .before .before .before .before .args in
+    let m = ofParts (a .shape) (a .rulerows .now) (a .moverows .now) (a .shows .now) (a .finals .now) in
     short m (a .budget) (a .heads .now) (a .triples .now) (of-parts m (tested .before .parts-valid .ensures)) (tested .if1 .left) (c .before .long-enough .ensures) (c .if2 .taken)
 
 run-requires : tie.Need-run-requires
-run-requires c κs = let long = c .before .before in let tested = long .before .before .before .before in let a = tested .before .before .before .before .args in let m = ofParts (a .shape) (a .rulerows .now) (a .moverows .now) (a .shows .now) (a .finals .now) in
+run-requires c κs =
+    let long = c .before .before in
+    let tested = long .before .before .before .before in
+    let a = tested .before .before .before .before .args in
+    let m = ofParts (a .shape) (a .rulerows .now) (a .moverows .now) (a .shows .now) (a .finals .now) in
     able m (a .budget) (a .heads .now) (a .triples .now) (of-parts m (tested .before .parts-valid .ensures)) (tested .if1 .left) (long .before .long-enough .ensures) (long .if2 .left)
 
 same-length-3 : tie.Need-same-length-3
@@ -36,7 +43,11 @@ same-length-4 : tie.Need-same-length-4
 same-length-4 c = search needs
 
 returns-3 : tie.Need-returns-3
-returns-3 c = let long = c .before .before .before .before .before .before .before in let tested = long .before .before .before .before in let a = tested .before .before .before .before .args in let m = ofParts (a .shape) (a .rulerows .now) (a .moverows .now) (a .shows .now) (a .finals .now) in
+returns-3 c =
+    let long = c .before .before .before .before .before .before .before in
+    let tested = long .before .before .before .before in
+    let a = tested .before .before .before .before .args in
+    let m = ofParts (a .shape) (a .rulerows .now) (a .moverows .now) (a .shows .now) (a .finals .now) in
     done m (a .budget) (a .heads .now) (a .triples .now) (of-parts m (tested .before .parts-valid .ensures)) (tested .if1 .left) (long .before .long-enough .ensures) (long .if2 .left) (c .before .before .before .before .run .ensures)
 
 pub decide-parts-spec : {M : Type 1} → statement M

@@ -26,7 +26,10 @@ same-length-2 : tie.Need-same-length-2
 same-length-2 c = search needs
 
 returns : tie.Need-returns
-returns c = started-is _ _ _ _ _ (c .before .before .before .before .before .before .before .before .before .before .before .before .head-count .ensures) (c .before .before .before .before .before .before .before .triple-count .ensures) (c .before .before .before .before .before .before .before .before .before .before .before .clear .last .0) (c .before .before .before .before .before .before .before .before .before .before .before .clear .ensures) (c .before .before .before .before .before .before .clear2 .ensures) (c .before .before .put-head .ensures)
+returns c =
+    let triples = c .before .before .before .before .before .before in
+    let heads = triples .before .before .before .before .before in
+    started-is _ _ _ _ _ (heads .before .head-count .ensures) (triples .before .triple-count .ensures) (heads .clear .last .0) (heads .clear .ensures) (triples .clear2 .ensures) (c .before .before .put-head .ensures)
 
 pub start-spec : {M : Type 1} → statement M
 start-spec =

@@ -40,7 +40,8 @@ put-requires-4 c κs = search needs
 
 returns-3 : tie.Need-returns-3
 returns-3 c = let top = c .before .before .before .before .before .before .before in let head = top .before .before in let row = head .before .before .before .before .before in let s = row .before in
-    put-call (row .row-at .ensures) (s .pre .0) _ _ (s .pre .1 .1) (head .before .before .before .if1 .left) (head .before .symbol-of .ensures .0) (head .put .ensures) (top .put2 .ensures) (c .before .before .before .before .before .if2 .left) (c .before .before .before .put3 .ensures) (c .put4 .ensures)
+    put-call (row .row-at .ensures) (s .pre .0) _ _ (s .pre .1 .1) (head .before .before .before .if1 .left) (head .before .symbol-of .ensures .0) (head .put .ensures)
+    (top .put2 .ensures) (c .before .before .before .before .before .if2 .left) (c .before .before .before .put3 .ensures) (c .put4 .ensures)
 
 pub sort-rule-spec : {M : Type 1} → statement M
 sort-rule-spec =

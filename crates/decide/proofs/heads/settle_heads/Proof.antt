@@ -29,7 +29,9 @@ element-copy-out-take-heads : tie.Need-element-copy-out-take-heads Inv-loop μ-l
 element-copy-out-take-heads c = row-low (omega arith) (c .before .loop .inv)
 
 take-heads-requires : tie.Need-take-heads-requires Inv-loop μ-loop
-take-heads-requires c κs = let l = c .before .before .before .before .loop .inv in (rows-room (omega arith) l (c .before .before .before .before .before .before .pre .1 .0), row-fits (omega arith) l (c .before .before .before .before .before .before .pre .1 .1))
+take-heads-requires c κs =
+    let l = c .before .before .before .before .loop .inv in
+    (rows-room (omega arith) l (c .before .before .before .before .before .before .pre .1 .0), row-fits (omega arith) l (c .before .before .before .before .before .before .pre .1 .1))
 
 mul-nh : tie.Need-mul-nh Inv-loop μ-loop
 mul-nh c = let h = row-low (omega arith) (c .before .before .before .before .before .before .before .loop .inv) in search needs

@@ -15,7 +15,10 @@ land-requires : tie.Need-land-requires
 land-requires c κs = search needs
 
 returns-2 : tie.Need-returns-2
-returns-2 c = let row = c .before .before .before .before in let a = row .before .args in show-none (row .row-at .ensures) (a .tg .now) (a .e .now) (a .hd .now) _ (c .before .before .if1 .left) (c .before .land .ensures) (c .if2 .taken)
+returns-2 c =
+    let row = c .before .before .before .before in
+    let a = row .before .args in
+    show-none (row .row-at .ensures) (a .tg .now) (a .e .now) (a .hd .now) _ (c .before .before .if1 .left) (c .before .land .ensures) (c .if2 .taken)
 
 add-row-requires : tie.Need-add-row-requires
 add-row-requires c κs = search needs
@@ -38,7 +41,10 @@ through-requires : tie.Need-through-requires
 through-requires c κs = search needs
 
 add-row-requires-2 : tie.Need-add-row-requires-2
-add-row-requires-2 c κs = let top = c .before .before .before .before .before .before in let row = top .before .before .before .before .before .before in (row .row-at .ensures .under-in, top .add-row .ensures .as-long ∙ row .before .pre .1)
+add-row-requires-2 c κs =
+    let top = c .before .before .before .before .before .before in
+    let row = top .before .before .before .before .before .before in
+    (row .row-at .ensures .under-in, top .add-row .ensures .as-long ∙ row .before .pre .1)
 
 returns-5 : tie.Need-returns-5
 returns-5 c = let top = c .before .before .before .before .before .before .before in let land = top .before .before .before in let row = land .before .before .before in let a = row .before .args in

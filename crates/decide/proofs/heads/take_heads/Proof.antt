@@ -20,7 +20,10 @@ same-length : tie.Need-same-length
 same-length c = search needs
 
 returns-2 : tie.Need-returns-2
-returns-2 c = let gained = c .before .before .before .before .before in let s = gained .before .before .before in take-some _ (gained .gain .ensures) (s .pre .0) (s .pre .1) (c .before .before .before .before .if1 .left) (c .before .before .stamp-heads .ensures)
+returns-2 c =
+    let gained = c .before .before .before .before .before in
+    let s = gained .before .before .before in
+    take-some _ (gained .gain .ensures) (s .pre .0) (s .pre .1) (c .before .before .before .before .if1 .left) (c .before .before .stamp-heads .ensures)
 
 pub take-heads-spec : {M : Type 1} → statement M
 take-heads-spec =

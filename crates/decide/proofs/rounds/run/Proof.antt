@@ -41,7 +41,10 @@ enum-told : tie.Need-enum-told Inv-loop μ-loop
 enum-told c = search needs
 
 add-n : tie.Need-add-n Inv-loop μ-loop
-add-n c = let at = c .before .before .before .before .before in let d = at .before .before .before .before .before .pre in omega (arith, room (at .loop .inv .1) (c .before .before .judge .ensures) (c .enum-told .given .1) d)
+add-n c =
+    let at = c .before .before .before .before .before in
+    let d = at .before .before .before .before .before .pre in
+    omega (arith, room (at .loop .inv .1) (c .before .before .judge .ensures) (c .enum-told .given .1) d)
 
 round-heads-requires : tie.Need-round-heads-requires Inv-loop μ-loop
 round-heads-requires c κs =

@@ -6,7 +6,10 @@ gather-requires : tie.Need-gather-requires
 gather-requires c κs = let s = c .before .before .before in (s .pre .few, s .pre .long)
 
 settle-all-requires : tie.Need-settle-all-requires
-settle-all-requires c κs = let gathered = c .before .before .before .gather .ensures in let s = c .before .before .before .before .before .before .before in (gathered .few, (s .pre .room, s .pre .fit gathered))
+settle-all-requires c κs =
+    let gathered = c .before .before .before .gather .ensures in
+    let s = c .before .before .before .before .before .before .before in
+    (gathered .few, (s .pre .room, s .pre .fit gathered))
 
 same-length : tie.Need-same-length
 same-length c = c .before .before .settle-all .ensures .table .as-long

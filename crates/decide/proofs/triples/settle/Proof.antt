@@ -28,11 +28,19 @@ gain-requires : tie.Need-gain-requires
 gain-requires c κs = search needs
 
 returns : tie.Need-returns
-returns c = let gained = c .before in let g = gained .before .before .symbol-of .ensures .0 in let m = gained .before .before .before .product .ensures in let s = gained .before .before .before .before .before .before .before in
+returns c =
+    let gained = c .before in
+    let g = gained .before .before .symbol-of .ensures .0 in
+    let m = gained .before .before .before .product .ensures in
+    let s = gained .before .before .before .before .before .before .before in
     settle-is _ _ _ g m (take-none _ (gained .gain .ensures) (s .pre .1 .0) (settle-in _ _ _ g m (s .pre .1 .1)) (c .if1 .taken))
 
 stamp-requires : tie.Need-stamp-requires
-stamp-requires c κs = let gained = c .before .before in let g = gained .before .before .symbol-of .ensures .0 in let m = gained .before .before .before .product .ensures in let s = gained .before .before .before .before .before .before .before in
+stamp-requires c κs =
+    let gained = c .before .before in
+    let g = gained .before .before .symbol-of .ensures .0 in
+    let m = gained .before .before .before .product .ensures in
+    let s = gained .before .before .before .before .before .before .before in
     take-in (s .args .k) (gained .gain .ensures) (s .pre .1 .0) (settle-in _ _ _ g m (s .pre .1 .1)) (c .before .if1 .left)
 
 shl-result : tie.Need-shl-result
@@ -42,7 +50,11 @@ same-length : tie.Need-same-length
 same-length c = search needs
 
 returns-2 : tie.Need-returns-2
-returns-2 c = let gained = c .before .before .before .before .before in let g = gained .before .before .symbol-of .ensures .0 in let m = gained .before .before .before .product .ensures in let s = gained .before .before .before .before .before .before .before in
+returns-2 c =
+    let gained = c .before .before .before .before .before in
+    let g = gained .before .before .symbol-of .ensures .0 in
+    let m = gained .before .before .before .product .ensures in
+    let s = gained .before .before .before .before .before .before .before in
     settle-is _ _ _ g m (take-some _ (gained .gain .ensures) (s .pre .1 .0) (settle-in _ _ _ g m (s .pre .1 .1)) (c .before .before .before .before .if1 .left) (c .before .before .stamp .ensures))
 
 pub settle-spec : {M : Type 1} → statement M

@@ -17,7 +17,10 @@ element-copy-out-old : tie.Need-element-copy-out-old
 element-copy-out-old c = search needs
 
 returns : tie.Need-returns
-returns c = let row = c .before .before .before in let s = row .before in visit-none (row .row-at .ensures) (s .args .e .now) _ _ (s .pre .1 .0) (s .pre .1 .1) (c .before .before .rest .ensures) (c .if1 .taken)
+returns c =
+    let row = c .before .before .before in
+    let s = row .before in
+    visit-none (row .row-at .ensures) (s .args .e .now) _ _ (s .pre .1 .0) (s .pre .1 .1) (c .before .before .rest .ensures) (c .if1 .taken)
 
 mul-by : tie.Need-mul-by
 mul-by c = search needs
@@ -29,7 +32,10 @@ add-requires : tie.Need-add-requires
 add-requires c κs = search needs
 
 returns-2 : tie.Need-returns-2
-returns-2 c = let row = c .before .before .before .before .before in let s = row .before in visit-some (row .row-at .ensures) (s .args .e .now) _ _ (s .pre .1 .0) (s .pre .1 .1) (c .before .before .before .before .rest .ensures) (c .add .ensures)
+returns-2 c =
+    let row = c .before .before .before .before .before in
+    let s = row .before in
+    visit-some (row .row-at .ensures) (s .args .e .now) _ _ (s .pre .1 .0) (s .pre .1 .1) (c .before .before .before .before .rest .ensures) (c .add .ensures)
 
 pub visit-spec : {M : Type 1} → statement M
 visit-spec =
