@@ -102,20 +102,12 @@ fn shape_of(m: Model) -> Shape
     }
 }
 
-// Decides a model that is lent in parts.
-fn decide_parts<'a>(
-    shape: Shape,
-    rulerows: &'a [u8; 1024],
-    moverows: &'a [u8; 384],
-    shows: &'a [bool; 512],
-    finals: &'a [bool; 8],
-    budget: u32,
-    heads: &mut [u16],
-    triples: &mut [u16],
-) -> Decision
-    ensures { λ r. ⌜ Decided (ofParts shape (now (rulerows .entry)) (now (moverows .entry)) (now (shows .entry)) (now (finals .entry))) budget (now (heads .entry)) (now (triples .entry)) r (now (heads .exit)) (now (triples .exit)) ⌝ }
+// Decides a model within a budget of rounds, and leaves in the arrays the ranks of the facts held. Nothing is written on 6 and 7.
+pub fn decide(m: Model, budget: u32, heads: &mut [u16], triples: &mut [u16]) -> Decision
+    ensures { λ r. ⌜ Decided m budget (now (heads .entry)) (now (triples .entry)) r (now (heads .exit)) (now (triples .exit)) ⌝ }
 {
-    if !model::parts_valid(shape, rulerows, moverows) {
+    let shape = shape_of(m);
+    if !model::parts_valid(shape, &m.rulerows, &m.moverows) {
         return Decision::Invalid;
     }
     let size = Size {
@@ -127,22 +119,6 @@ fn decide_parts<'a>(
     }
     run(
         shape,
-        rulerows,
-        moverows,
-        shows,
-        finals,
-        budget,
-        heads,
-        triples,
-    )
-}
-
-// Decides a model within a budget of rounds, and leaves in the arrays the ranks of the facts held. Nothing is written on 6 and 7.
-pub fn decide(m: Model, budget: u32, heads: &mut [u16], triples: &mut [u16]) -> Decision
-    ensures { λ r. ⌜ Decided m budget (now (heads .entry)) (now (triples .entry)) r (now (heads .exit)) (now (triples .exit)) ⌝ }
-{
-    decide_parts(
-        shape_of(m),
         &m.rulerows,
         &m.moverows,
         &m.shows,
