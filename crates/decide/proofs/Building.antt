@@ -1,26 +1,24 @@
 -- The rules put into the sets of what they need, the exits, and the final states. Assumes nothing.
-use mathlib.Core.Bool.{Bool, true, false, cond, not, _&&_, _||_}
+use mathlib.Core.Bool.{Bool, true, false, cond, _&&_, _||_}
 use mathlib.Core.List.{List}
 use mathlib.Core.Logic.{_⊎_, inl, inr, ⊎-elim}
 use mathlib.Core.Path.{_≡_, refl, sym, ap, ap₂, _∙_, subst, subst⁻¹}
-use Prim.Native.Nat.{ℕ, zero, suc, _+_, _*_, _/_, _%_, _^_, _<_, _≤_}
-use native.Mathlib.Numerals.{add-one}
+use Prim.Native.Nat.{ℕ, zero, suc, _+_, _*_, _/_, _%_, _^_, _<_}
 use native.Mathlib.Omega.{arith}
 use native.Mathlib.Decide.{ℕ-discrete, decLt}
 use lib.Bits.{bitOr}
 use lib.Dec.{T, eqb, ltb, eqb→eq, eqb-refl}
-use lib.ListN.{length, length-set, getD, set, replicate}
-use lib.Seq.{getD-set-same, getD-set-other}
+use lib.ListN.{length, getD}
 use borrow.Author.Tests.{eq-eqb, ne-eqb, lt-ltb, le-ltb}
 use Rattle.product.specs.Product.{Rule, exit, direct, call}
-use Rattle.product.proofs.Lists.{and-left, and-right, both, or-left, or-right, or-cases, same-truth}
+use Rattle.product.proofs.Lists.{and-right, both, or-left, or-right, or-cases}
 use Rattle.bits.specs.Bit.{bit}
 use Rattle.bits.proofs.Bit.{bit-or, bit-zero}
 use Rattle.bits.proofs.Set.{bit-pow, one-shifted}
 use Rattle.steps.specs.Steps.{symbolOf}
 use Rattle.decide.specs.declared.rows.Row.{Row}
 use Rattle.decide.specs.Sets.{member, chosen, With, Put}
-use Rattle.decide.specs.Gather.{kindAt, classAt, overAt, underAt, RowAt, zeros, Empty}
+use Rattle.decide.specs.Gather.{kindAt, classAt, overAt, underAt, RowAt, Empty}
 use Rattle.decide.specs.Frame.{ruleBy, rowRule}
 use Rattle.decide.specs.Turn.{UsesOf}
 use Rattle.decide.specs.Build.{UsesPut, UsesAll, ExitPut, Exits, RulePut, RulesSorted}

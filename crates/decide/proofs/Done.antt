@@ -10,7 +10,6 @@ use Rattle.bits.specs.Matrix.{mats}
 use Rattle.relations.specs.Quiet.{Enough}
 use Rattle.decide.specs.Sets.{chosen}
 use Rattle.decide.specs.Stamp.{of-heads, of-triples}
-use Rattle.decide.specs.Gather.{Gains}
 use Rattle.decide.specs.Take.{Took, fromClasses, TriplesReady, TriplesDone}
 use Rattle.decide.specs.Show.{HeadsReady, HeadsDone}
 use Rattle.decide.specs.Frame.{Frame}

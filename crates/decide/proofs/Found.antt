@@ -1,9 +1,9 @@
 -- A violating fact is held exactly if the matrices show one, of a symbol that changed. Assumes nothing.
 use mathlib.Core.Bool.{Bool, true, false, not, _&&_, _||_}
 use mathlib.Core.List.{List}
-use mathlib.Core.Logic.{_⊎_, inl, inr, ⊎-elim}
+use mathlib.Core.Logic.{_⊎_, ⊎-elim}
 use mathlib.Core.Path.{_≡_, refl, sym, ap, ap₂, _∙_, subst, subst⁻¹}
-use Prim.Native.Nat.{ℕ, zero, suc, _+_, _-_, _*_, _/_, _^_, _<_, _≤_}
+use Prim.Native.Nat.{ℕ, _+_, _-_, _*_, _/_, _^_, _<_}
 use native.Mathlib.Nat.{zero-add}
 use native.Mathlib.Omega.{arith}
 use lib.Bits.{bitAnd, bitOr}
@@ -20,16 +20,15 @@ use Rattle.product.proofs.Range.{held-within}
 use Rattle.product.proofs.Verdict.{violated-by}
 use Rattle.table.specs.declared.Size.{Size}
 use Rattle.bits.specs.Bit.{bit}
-use Rattle.bits.specs.Matrix.{mat, mats, some}
 use Rattle.bits.proofs.Bit.{bit-and, bit-or, bit-zero, bit-shr}
 use Rattle.bits.proofs.Lowest.{lowest, lowest-set, cleared, cleared-less}
 use Rattle.bits.proofs.Some.{of-some, some-of, some-lowest, some-none, has-bit}
 use Rattle.decide.specs.declared.Goal.{Goal}
-use Rattle.decide.specs.Standing.{Begins, Standing}
+use Rattle.decide.specs.Standing.{Begins}
 use Rattle.decide.specs.Driven.{finalHeads, violations, Goals}
 use Rattle.decide.proofs.Members.{or-false}
 use Rattle.decide.proofs.Gathered.{or-assoc}
-use Rattle.decide.proofs.Taking.{mat-in, mat-lt}
+use Rattle.decide.proofs.Taking.{mat-in}
 use Rattle.decide.proofs.RoundTriples.{states-in, eight}
 
 -- the loop over the symbols that changed: what is left to look at, with what was seen, makes what was asked

@@ -1,23 +1,21 @@
 -- The visit of a rule, and of the rules of a set. Assumes nothing.
-use mathlib.Core.Bool.{Bool, true, false, cond, not, _&&_, _||_}
+use mathlib.Core.Bool.{Bool, true, false, _&&_, _||_}
 use mathlib.Core.List.{List}
 use mathlib.Core.Path.{_≡_, refl, sym, ap, ap₂, _∙_, subst, subst⁻¹}
-use Prim.Native.Nat.{ℕ, zero, suc, _+_, _*_, _/_, _%_, _<_, _≤_}
+use Prim.Native.Nat.{ℕ, _+_, _*_, _<_}
 use native.Mathlib.Omega.{arith}
 use native.Mathlib.Decide.{ℕ-discrete}
 use lib.Dec.{T, eqb, ltb}
 use borrow.Author.Tests.{eq-eqb, ne-eqb}
-use lib.ListN.{getD, set, length, length-set, replicate}
+use lib.ListN.{getD, set, length, length-set}
 use lib.Seq.{getD-set-same, getD-set-other}
 use lib.Bits.{bitOr}
-use Rattle.product.proofs.Lists.{or-right, same-truth, T-true}
-use Rattle.bits.specs.Bit.{bit}
-use Rattle.bits.specs.Matrix.{entry, mat, mats, some, multiplied}
+use Rattle.product.proofs.Lists.{or-right}
+use Rattle.bits.specs.Matrix.{entry, mat, mats, multiplied}
 use Rattle.bits.proofs.Bit.{bit-or, bit-zero}
 use Rattle.decide.specs.declared.rows.Row.{Row}
-use Rattle.decide.specs.Sets.{chosen, among, With, Picked}
-use Rattle.decide.specs.Stamp.{Entries}
-use Rattle.decide.specs.Gather.{restOf, restAt, kindAt, classAt, overAt, underAt, RowAt, added, addedBy, Visits, Gains}
+use Rattle.decide.specs.Sets.{chosen, With, Picked}
+use Rattle.decide.specs.Gather.{restOf, restAt, kindAt, RowAt, added, addedBy, Visits, Gains}
 use Rattle.decide.proofs.Members.{or-false, among-picked, among-none}
 
 -- what is run after a step

@@ -1,5 +1,5 @@
 -- The rounds go on until there is an answer. Assumes nothing.
-use mathlib.Core.Bool.{Bool, true, false, not, _&&_}
+use mathlib.Core.Bool.{Bool, true, false, not}
 use mathlib.Core.List.{List}
 use mathlib.Core.Option.{Option, none, some}
 use mathlib.Core.Path.{_≡_, refl, sym, ap, _∙_, subst, subst⁻¹}
@@ -9,9 +9,9 @@ use native.Mathlib.Numerals.{add-one}
 use native.Mathlib.Omega.{arith}
 use lib.Dec.{T, T-not, eqb, eqb→eq, eqb-refl}
 use lib.ListN.{length}
-use Rattle.product.specs.Lists.{upTo, _∈_}
+use Rattle.product.specs.Lists.{_∈_}
 use Rattle.product.specs.Product.{Product}
-use Rattle.product.specs.Facts.{head, triple, same, first}
+use Rattle.product.specs.Facts.{head, triple, first}
 use Rattle.product.specs.Rounds.{grown, held}
 use Rattle.product.specs.Table.{ranks}
 use Rattle.product.specs.Verdict.{violated, adds, Verdict, violation, safe, rounds, GoesOn, ran, answer}
@@ -34,7 +34,7 @@ use Rattle.decide.specs.Take.{TriplesReady, TriplesDone}
 use Rattle.decide.specs.Show.{HeadsReady, HeadsDone}
 use Rattle.decide.specs.Standing.{Begins, Kept}
 use Rattle.decide.specs.Turn.{Chosen}
-use Rattle.decide.specs.Driven.{violations, Tested, violates, is-safe, is-spent, goes-on, Judged, Goals, startRows, Starts, Driving, Answers, Driven}
+use Rattle.decide.specs.Driven.{violations, Tested, violates, is-safe, is-spent, goes-on, Judged, startRows, Starts, Driving, Answers, Driven}
 use Rattle.decide.proofs.Found.{found, not-found}
 use Rattle.decide.proofs.Done.{heads-ready, triples-ready, round-ends}
 use Rattle.decide.proofs.Turning.{triples-low, heads-low, after-turn}

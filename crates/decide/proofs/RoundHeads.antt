@@ -1,27 +1,26 @@
 -- A round of the heads by rows of bits is the round of the definition. Assumes nothing.
 use mathlib.Core.Bool.{Bool, true, false, cond, not, _&&_, _||_}
 use mathlib.Core.List.{List}
-use mathlib.Core.Path.{_≡_, refl, sym, ap, ap₂, _∙_, subst, subst⁻¹, fun-ext}
-use Prim.Native.Nat.{ℕ, zero, suc, _+_, _*_, _<_, _≤_}
+use mathlib.Core.Path.{_≡_, refl, sym, ap, ap₂, _∙_, subst, subst⁻¹}
+use Prim.Native.Nat.{ℕ, zero, suc, _+_, _*_, _<_}
 use native.Mathlib.Nat.{zero-add}
 use native.Mathlib.Omega.{arith}
-use lib.Dec.{T, eqb, ltb, eqb→eq, eqb-refl, eqb·suc-zero, eqb·suc-suc}
-use borrow.Author.Tests.{lt-ltb}
+use lib.Dec.{T, eqb, eqb·suc-zero, eqb·suc-suc}
 use lib.ListN.{getD}
-use Rattle.product.specs.Lists.{any, upTo, _∈_}
-use Rattle.product.specs.Product.{Rule, exit, direct, call, symbol, Product, InRange}
+use Rattle.product.specs.Lists.{any}
+use Rattle.product.specs.Product.{Product, InRange}
 use Rattle.product.specs.Facts.{Fact, head, triple}
 use Rattle.product.specs.Rounds.{held}
 use Rattle.product.specs.Table.{ranks}
-use Rattle.product.proofs.Lists.{and-left, and-right, both, or-right, any-of, same-truth, in-upTo, upTo-lt}
+use Rattle.product.proofs.Lists.{and-left, and-right, both, or-right, any-of, same-truth}
 use Rattle.product.proofs.Lists
 use Rattle.product.proofs.Range.{held-within}
 use Rattle.table.specs.declared.Size.{Size}
 use Rattle.bits.specs.Bit.{bit}
-use Rattle.bits.specs.Matrix.{entry, mat, mats, some}
+use Rattle.bits.specs.Matrix.{mat, mats, some}
 use Rattle.bits.proofs.Some.{some-of, of-some}
 use Rattle.bits.specs.Matrix.{passed}
-use Rattle.relations.specs.Relations.{steps, erased, tops, image, lands, uncovers, made}
+use Rattle.relations.specs.Relations.{lands, uncovers, made}
 use Rattle.relations.specs.Quiet.{Enough}
 use Rattle.relations.proofs.Classes.{lands-by}
 use Rattle.relations.proofs.Quiet.{made-next}
@@ -30,7 +29,7 @@ use Rattle.steps.specs.Steps.{symbolOf}
 use Rattle.decide.specs.Gather.{kindAt, classAt, overAt, underAt}
 use Rattle.decide.specs.Sets.{chosen}
 use Rattle.decide.specs.Stamp.{of-heads, viewOf}
-use Rattle.decide.specs.Take.{Fits, Took}
+use Rattle.decide.specs.Take.{Took}
 use Rattle.decide.specs.Frame.{ruleBy, Frame}
 use Rattle.decide.specs.Show.{landing, shownBy, shown, shownAll, RowsFit}
 use Rattle.decide.proofs.Taking.{mat-in, mat-lt}

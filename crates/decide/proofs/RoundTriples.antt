@@ -1,14 +1,14 @@
 -- A round of the triples by matrices is the round of the definition. Assumes nothing.
 use mathlib.Core.Bool.{Bool, true, false, cond, not, _&&_, _||_}
-use mathlib.Core.List.{List, []}
-use mathlib.Core.Path.{_≡_, refl, sym, ap, ap₂, _∙_, subst, subst⁻¹, fun-ext}
-use Prim.Native.Nat.{ℕ, zero, suc, _*_, _%_, _<_, _≤_}
+use mathlib.Core.List.{List}
+use mathlib.Core.Path.{_≡_, refl, sym, ap, ap₂, _∙_, subst, subst⁻¹}
+use Prim.Native.Nat.{ℕ, zero, suc, _<_}
 use native.Mathlib.Omega.{arith}
 use lib.Dec.{T, eqb, eqb→eq, eqb-refl, eqb·suc-zero, eqb·suc-suc}
 use lib.ListN.{getD}
-use Rattle.product.specs.Lists.{any, upTo, _∈_}
+use Rattle.product.specs.Lists.{upTo, _∈_}
 use Rattle.product.specs.Product.{Rule, exit, direct, call, symbol, Product, InRange}
-use Rattle.product.specs.Facts.{Fact, head, triple, Way, same, first}
+use Rattle.product.specs.Facts.{Fact, head, triple, same, first}
 use Rattle.product.specs.Rounds.{held}
 use Rattle.product.specs.Table.{ranks}
 use Rattle.product.proofs.Lists
@@ -17,7 +17,6 @@ use Rattle.product.proofs.Rounds.{grown-later}
 use mathlib.Core.Logic.{_⊎_, inl, inr}
 use Rattle.product.proofs.Range.{held-within}
 use Rattle.table.specs.declared.Size.{Size}
-use Rattle.table.specs.Cells.{view}
 use Rattle.bits.specs.Bit.{bit}
 use Rattle.bits.specs.Matrix.{entry, mat, mats, some, multiplied}
 use Rattle.bits.proofs.Matrix.{multiplied-at}
@@ -32,8 +31,8 @@ use Rattle.steps.specs.Steps.{symbolOf}
 use Rattle.steps.proofs.Laws.{symbol-low}
 use Rattle.decide.specs.Gather.{restOf, restAt, kindAt, classAt, overAt, underAt, added, addedBy, Gains}
 use Rattle.decide.specs.Stamp.{of-triples, viewOf}
-use Rattle.decide.specs.Take.{Fits, AllFit, Took, givenBy, fromClass, fromClasses}
-use Rattle.decide.specs.Sets.{chosen, among}
+use Rattle.decide.specs.Take.{AllFit, Took, givenBy, fromClass, fromClasses}
+use Rattle.decide.specs.Sets.{chosen}
 use Rattle.decide.specs.Frame.{ruleBy, Frame}
 use Rattle.decide.specs.Standing.{Stored}
 use Rattle.decide.proofs.Taking.{mat-in, mat-lt}

@@ -1,20 +1,14 @@
 -- The classes of a set, settled one after another. Assumes nothing.
-use mathlib.Core.Bool.{Bool, true, false, not, _&&_, _||_}
+use mathlib.Core.Bool.{false, _||_}
 use mathlib.Core.List.{List}
 use mathlib.Core.Path.{_≡_, refl, sym, ap, ap₂, _∙_, subst, subst⁻¹}
 use Prim.Native.Nat.{ℕ, _<_}
-use native.Mathlib.Omega.{arith}
-use native.Mathlib.Decide.{ℕ-discrete}
-use lib.Dec.{T, eqb, eqb→eq}
-use borrow.Author.Tests.{eq-eqb, ne-eqb}
-use lib.ListN.{length, length-set, getD, set}
-use lib.Seq.{getD-set-same, getD-set-other}
+use lib.ListN.{length, getD}
 use lib.Bits.{bitOr}
-use Rattle.product.proofs.Lists.{and-left, and-right}
 use Rattle.table.specs.declared.Size.{Size}
-use Rattle.bits.specs.Matrix.{mats, multiplied}
+use Rattle.bits.specs.Matrix.{multiplied}
 use Rattle.steps.specs.Steps.{symbolOf}
-use Rattle.decide.specs.Sets.{among, Picked}
+use Rattle.decide.specs.Sets.{Picked}
 use Rattle.decide.specs.Stamp.{of-triples, Entries, alone}
 use Rattle.decide.specs.Take.{Took, Room, Fits, givenBy, fromClass, fromClasses}
 use Rattle.decide.proofs.Members.{or-false, among-picked, among-none}

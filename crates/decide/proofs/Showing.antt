@@ -1,18 +1,18 @@
 -- The heads that rules give: of one, and of all in a set; and the rows taken in. Assumes nothing.
-use mathlib.Core.Bool.{Bool, true, false, cond, not, _&&_, _||_}
+use mathlib.Core.Bool.{Bool, true, false, not, _&&_, _||_}
 use mathlib.Core.List.{List}
 use mathlib.Core.Logic.{_⊎_, inl, inr}
 use mathlib.Core.Path.{_≡_, refl, sym, ap, ap₂, _∙_, subst, subst⁻¹}
-use Prim.Native.Nat.{ℕ, zero, suc, _+_, _-_, _*_, _%_, _^_, _<_, _≤_}
+use Prim.Native.Nat.{ℕ, zero, suc, _+_, _-_, _*_, _%_, _^_, _<_}
 use native.Mathlib.Nat.{zero-add, mul-comm}
 use native.Mathlib.Omega.{arith}
 use native.Mathlib.Decide.{ℕ-discrete}
-use lib.Dec.{T, eqb, ltb, eqb→eq, eqb·suc-zero, eqb·suc-suc}
+use lib.Dec.{T, eqb, eqb→eq, eqb·suc-zero, eqb·suc-suc}
 use borrow.Author.Tests.{eq-eqb, ne-eqb, lt-ltb}
 use lib.Bits.{bitAnd, bitOr}
 use lib.ListN.{length, length-set, getD, set}
 use lib.Seq.{getD-set-same, getD-set-other}
-use Rattle.product.proofs.Lists.{and-left, and-right, or-cases, T-true}
+use Rattle.product.proofs.Lists.{and-left, and-right, or-cases}
 use Rattle.table.specs.declared.Size.{Size}
 use Rattle.bits.specs.Bit.{bit}
 use Rattle.lent.specs.Lending.{modelIn}
@@ -25,7 +25,7 @@ use Rattle.bits.proofs.Set.{bit-pow, one-shifted}
 use Rattle.bits.proofs.Lowest.{lowest, lowest-set, cleared, cleared-less}
 use Rattle.bits.proofs.Image.{image-at}
 use Rattle.decide.specs.declared.rows.Row.{Row}
-use Rattle.decide.specs.Sets.{among, Picked}
+use Rattle.decide.specs.Sets.{Picked}
 use Rattle.decide.specs.Stamp.{of-heads, Entries, alone}
 use Rattle.decide.specs.Gather.{kindAt, classAt, overAt, underAt, RowAt, Empty}
 use Rattle.decide.specs.Take.{Took, Room, Fits}

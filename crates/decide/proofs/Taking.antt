@@ -1,30 +1,27 @@
 -- Entries taken in: none, those of one matrix, and some after others. Assumes nothing.
 use mathlib.Core.Bool.{Bool, true, false, cond, not, _&&_, _||_}
-use mathlib.Core.List.{List, []}
+use mathlib.Core.List.{List}
 use mathlib.Core.Logic.{_⊎_, inl, inr}
-use mathlib.Core.Path.{_≡_, refl, sym, ap, ap₂, _∙_, subst, subst⁻¹, fun-ext}
-use Prim.Native.Nat.{ℕ, zero, suc, _+_, _*_, _/_, _%_, _^_, _<_, _≤_}
-use native.Mathlib.Nat.{pow-suc, div-add-mod', mod-lt, zero-lt-suc, div-lt-iff-lt-mul}
-use native.Mathlib.Numerals.{add-one}
+use mathlib.Core.Path.{_≡_, refl, sym, ap, _∙_, subst, subst⁻¹, fun-ext}
+use Prim.Native.Nat.{ℕ, _+_, _*_, _/_, _%_, _^_, _<_}
+use native.Mathlib.Nat.{div-add-mod', mod-lt, zero-lt-suc}
 use native.Mathlib.Omega.{arith}
-use native.Mathlib.Decide.{ℕ-discrete, decLt}
-use lib.Dec.{T, T-not, eqb, ltb, eqb→eq, ltb→lt, eqb-refl}
-use borrow.Author.Tests.{eq-eqb, ne-eqb, lt-ltb, le-ltb, ltb-false}
-use lib.Bits.{bitOr, bitXor, or-lt}
-use lib.ListN.{length, length-set, drop, getD, set}
+use native.Mathlib.Decide.{ℕ-discrete}
+use lib.Dec.{T, eqb, ltb, eqb→eq, ltb→lt}
+use borrow.Author.Tests.{eq-eqb, ne-eqb, lt-ltb}
+use lib.Bits.{bitOr, bitXor}
+use lib.ListN.{length, length-set, getD, set}
 use lib.Seq.{getD-set-same, getD-set-other}
 use Rattle.product.specs.Facts.{Fact, head, triple}
 use Rattle.product.specs.Table.{Table}
-use Rattle.product.proofs.Lists.{and-left, and-right, both, or-left, or-right, or-cases, T-true}
+use Rattle.product.proofs.Lists.{and-left, and-right, both, or-left, or-right, or-cases}
 use Rattle.table.specs.declared.Size.{Size}
-use Rattle.table.specs.Cells.{view}
 use Rattle.bits.specs.Bit.{bit}
-use Rattle.bits.proofs.Bit.{bit-or, bit-xor, bit-zero, bit-past, bit-ext, xor}
+use Rattle.bits.proofs.Bit.{bit-or, bit-xor, bit-zero, xor}
 use Rattle.bits.proofs.Set.{bit-pow, one-shifted}
-use Rattle.bits.specs.Matrix.{entry, mat, mats, some, multiplied}
-use Rattle.bits.proofs.Matrix.{multiplied-at}
+use Rattle.bits.specs.Matrix.{entry, mat, mats}
 use Rattle.bits.proofs.Some.{has-bit}
-use Rattle.decide.specs.Stamp.{Sort, of-heads, of-triples, viewOf, cellsOf, Became, Entries, alone, named, ranked, Inside, Stamps}
+use Rattle.decide.specs.Stamp.{Sort, of-heads, of-triples, viewOf, Became, Entries, alone, named, ranked, Inside, Stamps}
 use Rattle.decide.specs.Take.{Took, Room, Within, Fits, Gained}
 use Rattle.decide.proofs.Gathered.{mat-or, mat-none}
 use Rattle.decide.proofs.Members.{or-false}

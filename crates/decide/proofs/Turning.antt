@@ -1,16 +1,16 @@
 -- A round and the choice of the rules for the next. Assumes nothing.
 use mathlib.Core.Bool.{Bool, true, false, not, _&&_, _||_}
 use mathlib.Core.List.{List}
-use mathlib.Core.Logic.{_⊎_, inl, inr, ⊎-elim}
-use mathlib.Core.Path.{_≡_, refl, sym, ap, _∙_, subst, subst⁻¹}
-use Prim.Native.Nat.{ℕ, zero, suc, _+_, _<_, _≤_}
+use mathlib.Core.Logic.{_⊎_, ⊎-elim}
+use mathlib.Core.Path.{_≡_, refl, sym, ap, _∙_, subst}
+use Prim.Native.Nat.{ℕ, suc, _<_}
 use native.Mathlib.Omega.{arith}
 use lib.Bits.{bitOr}
 use lib.Dec.{T, T-not}
 use Rattle.product.specs.Lists.{any}
 use Rattle.product.specs.Product.{Product}
-use Rattle.product.specs.Facts.{Fact, head, triple, same, first, cells}
-use Rattle.product.specs.Rounds.{grown, held}
+use Rattle.product.specs.Facts.{Fact, head, triple, cells}
+use Rattle.product.specs.Rounds.{held}
 use Rattle.product.specs.Verdict.{adds}
 use Rattle.product.proofs.Lists.{and-left, and-right, both, or-cases, any-of}
 use Rattle.product.proofs.Lists

@@ -1,13 +1,10 @@
 -- The arrays that a product is held in: its rules in rows, and for each class the matrix of its steps. What serves the decision's own functions. Assumes nothing.
-use mathlib.Core.Bool.{Bool}
 use mathlib.Core.List.{List}
 use mathlib.Core.Path.{_≡_}
 use Prim.Native.Nat.{ℕ, zero, suc, _<_, _≤_}
 use lib.Dec.{T}
-use lib.ListN.{getD}
 use Rattle.product.specs.Lists.{upTo}
 use Rattle.product.specs.Product.{Rule, exit, direct, call, Product}
-use Rattle.bits.specs.Bit.{bit}
 use Rattle.bits.specs.Matrix.{mats}
 use Rattle.relations.specs.Relations.{steps}
 use Rattle.steps.specs.Steps.{symbolOf}

@@ -7,7 +7,7 @@ use lib.Dec.{T, eqb}
 use lib.ListN.{length, getD}
 use Rattle.table.specs.declared.Size.{Size}
 use Rattle.bits.specs.Bit.{bit}
-use Rattle.bits.specs.Matrix.{mats, some, passed, image}
+use Rattle.bits.specs.Matrix.{mats, some, image}
 use Rattle.steps.specs.Steps.{symbolOf}
 use Rattle.decide.specs.Sets.{among}
 use Rattle.decide.specs.Stamp.{of-heads}

@@ -1,8 +1,8 @@
 -- What stands in the matrices and in the arrays after a round, and what a round asks and leaves. What serves the decision's own functions. Assumes nothing.
-use mathlib.Core.Bool.{Bool, false, not}
+use mathlib.Core.Bool.{false, not}
 use mathlib.Core.List.{List}
 use mathlib.Core.Path.{_≡_}
-use Prim.Native.Nat.{ℕ, suc, _<_, _≤_}
+use Prim.Native.Nat.{ℕ, suc, _<_}
 use lib.Dec.{T}
 use lib.ListN.{length, drop}
 use Rattle.product.specs.Product.{Product, InRange}

@@ -1,5 +1,5 @@
 -- Matrices that take in entries, and the ranks that the new ones get. What serves the decision's own functions. Assumes nothing.
-use mathlib.Core.Bool.{Bool, false, not, _&&_, _||_}
+use mathlib.Core.Bool.{false, not, _&&_, _||_}
 use mathlib.Core.List.{List}
 use mathlib.Core.Path.{_≡_}
 use Prim.Native.Nat.{ℕ, _^_, _≤_, _<_}

@@ -1,4 +1,4 @@
-// The rounds: one round, the choice of the rules for the next, and the rounds until a verdict or the end of the budget.
+// The rounds until a verdict or the end of the budget: the tests after each, and the choice of the rules for the next.
 ghost use mathlib.Core.Path.{_≡_};
 ghost use Prim.Native.Nat.{ℕ, _*_, _%_, _^_, _<_};
 ghost use lib.Dec.{T};

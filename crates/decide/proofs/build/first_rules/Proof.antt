@@ -1,3 +1,4 @@
+-- `decide::build::first_rules` meets its contract. Assumes nothing.
 use mathlib.Core.Path.{refl}
 use Rattle.decide.proofs.Emptied.{empty-first}
 use Rattle.decide.proofs.Starting.{one-low}
@@ -5,24 +6,16 @@ use native.Mathlib.Omega.{arith}
 use borrow.Author.Needs.{needs}
 use Rattle.decide.proofs.build.first_rules.Statement.{statement}
 use Rattle.decide.proofs.build.first_rules.Tie as tie
-use Rattle.decide.proofs.build.first_rules.Reads as reads
-use Rattle.decide.proofs.build.first_rules.Lts as lts
-use Rattle.decide.proofs.build.sort_rules.Reads as sort-rules-reads
-use Rattle.decide.proofs.sets.collect.Reads as collect-reads
 
--- src/build.rt:66:5
 sort-rules-requires : tie.Need-sort-rules-requires
 sort-rules-requires c κs = let s = c .before .before in (s .pre .0, (s .pre .1 .1, empty-first 4))
 
--- src/build.rt:67:19
 shl-changed : tie.Need-shl-changed
 shl-changed c = search needs
 
--- src/build.rt:68:9
 collect-requires : tie.Need-collect-requires
 collect-requires c κs = let s = c .before .before .before .before in (omega arith, (one-low (s .args .g) (s .pre .1 .0), refl))
 
--- src/build.rt:59:1
 returns : tie.Need-returns
 returns c = let sorted = c .before .before .sort-rules .ensures in record { uses = sorted .uses; more-is = refl; changed-is = refl; exits = sorted .exits; heads = c .collect .ensures }
 

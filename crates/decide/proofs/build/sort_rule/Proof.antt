@@ -1,64 +1,47 @@
+-- `decide::build::sort_rule` meets its contract. Assumes nothing.
 use Rattle.decide.proofs.Building.{put-exit, put-direct, put-call}
-use native.Mathlib.Omega.{arith}
 use borrow.Author.Needs.{needs}
 use Rattle.decide.proofs.build.sort_rule.Statement.{statement}
 use Rattle.decide.proofs.build.sort_rule.Tie as tie
-use Rattle.decide.proofs.build.sort_rule.Reads as reads
-use Rattle.decide.proofs.build.sort_rule.Lts as lts
-use Rattle.decide.proofs.rows.row_at.Reads as row-at-reads
-use Rattle.decide.proofs.sets.add.Reads as add-reads
-use Rattle.decide.proofs.sets.put.Reads as put-reads
-use Rattle.steps.proofs.symbol_of.Reads as symbol-of-reads
 
--- src/build.rt:25:9
 row-at-requires : tie.Need-row-at-requires
 row-at-requires c κs = search needs
 
--- src/build.rt:27:9
 add-requires : tie.Need-add-requires
 add-requires c κs = search needs
 
--- src/build.rt:28:9
 returns : tie.Need-returns
 returns c = let row = c .before .before .before .before in let s = row .before in put-exit (row .row-at .ensures) (s .pre .0) _ (s .pre .1 .0) (c .before .before .if1 .taken) (c .add .ensures)
 
--- src/build.rt:30:18
 symbol-of-requires : tie.Need-symbol-of-requires
 symbol-of-requires c κs = search needs
 
--- src/build.rt:30:13
 add-put : tie.Need-add-put
 add-put c = search needs
 
--- src/build.rt:30:5
 put-requires : tie.Need-put-requires
 put-requires c κs = search needs
 
--- src/build.rt:31:5
 put-requires-2 : tie.Need-put-requires-2
 put-requires-2 c κs = search needs
 
--- src/build.rt:33:9
 returns-2 : tie.Need-returns-2
 returns-2 c = let head = c .before .before .before .before in let row = head .before .before .before .before .before in let s = row .before in
     put-direct (row .row-at .ensures) (s .pre .0) _ _ (s .pre .1 .1) (head .before .before .before .if1 .left) (head .before .symbol-of .ensures .0) (head .put .ensures) (c .before .before .put2 .ensures) (c .if2 .taken)
 
--- src/build.rt:35:5
 put-requires-3 : tie.Need-put-requires-3
 put-requires-3 c κs = search needs
 
--- src/build.rt:36:13
 add-put-2 : tie.Need-add-put-2
 add-put-2 c = search needs
 
--- src/build.rt:36:5
 put-requires-4 : tie.Need-put-requires-4
 put-requires-4 c κs = search needs
 
--- src/build.rt:19:1
 returns-3 : tie.Need-returns-3
 returns-3 c = let top = c .before .before .before .before .before .before .before in let head = top .before .before in let row = head .before .before .before .before .before in let s = row .before in
-    put-call (row .row-at .ensures) (s .pre .0) _ _ (s .pre .1 .1) (head .before .before .before .if1 .left) (head .before .symbol-of .ensures .0) (head .put .ensures) (top .put2 .ensures) (c .before .before .before .before .before .if2 .left) (c .before .before .before .put3 .ensures) (c .put4 .ensures)
+    put-call (row .row-at .ensures) (s .pre .0) _ _ (s .pre .1 .1) (head .before .before .before .if1 .left) (head .before .symbol-of .ensures .0) (head .put .ensures)
+    (top .put2 .ensures) (c .before .before .before .before .before .if2 .left) (c .before .before .before .put3 .ensures) (c .put4 .ensures)
 
 pub sort-rule-spec : {M : Type 1} → statement M
 sort-rule-spec =

@@ -1,29 +1,23 @@
+-- `decide::rounds::judge` meets its contract. Assumes nothing.
 use Rattle.decide.specs.Driven.{violates, is-safe, is-spent, goes-on}
-use native.Mathlib.Omega.{arith}
 use borrow.Author.Needs.{needs}
 use Rattle.decide.proofs.rounds.judge.Statement.{statement}
 use Rattle.decide.proofs.rounds.judge.Tie as tie
-use Rattle.decide.proofs.rounds.judge.Reads as reads
-use Rattle.decide.proofs.rounds.judge.Lts as lts
-use Rattle.decide.proofs.rounds.look.Reads as look-reads
 
--- src/rounds.rt:113:8
 look-requires : tie.Need-look-requires
 look-requires c κs = search needs
 
--- src/rounds.rt:114:9
 returns : tie.Need-returns
 returns c = let seen = c .before .look in record { seen = seen .result; seen-is = seen .ensures; tested = violates (c .if1 .taken) }
 
--- src/rounds.rt:117:9
 returns-2 : tie.Need-returns-2
 returns-2 c = let seen = c .before .before .before .look in record { seen = seen .result; seen-is = seen .ensures; tested = is-safe (c .before .before .if1 .left) (c .if2 .taken) }
 
--- src/rounds.rt:120:9
 returns-3 : tie.Need-returns-3
-returns-3 c = let b = c .before .before .before in record { seen = b .before .look .result; seen-is = b .before .look .ensures; tested = is-spent (b .if1 .left) (c .before .if2 .left) (c .if3 .taken) }
+returns-3 c =
+    let b = c .before .before .before in
+    record { seen = b .before .look .result; seen-is = b .before .look .ensures; tested = is-spent (b .if1 .left) (c .before .if2 .left) (c .if3 .taken) }
 
--- src/rounds.rt:100:1
 returns-4 : tie.Need-returns-4
 returns-4 c = let b = c .before .before .before in record { seen = b .before .look .result; seen-is = b .before .look .ensures; tested = goes-on (b .if1 .left) (c .before .if2 .left) (c .if3 .left) }
 

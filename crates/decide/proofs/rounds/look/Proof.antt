@@ -1,3 +1,4 @@
+-- `decide::rounds::look` meets its contract. Assumes nothing.
 use lib.Count.{trailing-le}
 use Rattle.bits.proofs.Lowest.{cleared-less}
 use Rattle.decide.proofs.Found.{Left, left-first, left-next, left-last, lowest-low}
@@ -5,8 +6,6 @@ use borrow.Author.Needs.{needs}
 use native.Mathlib.Omega.{arith}
 use Rattle.decide.proofs.rounds.look.Statement.{statement}
 use Rattle.decide.proofs.rounds.look.Tie as tie
-use Rattle.decide.proofs.rounds.look.Reads as reads
-use Rattle.decide.proofs.rounds.look.Lts as lts
 
 abbrev Inv-loop : tie.InvT-loop
 Inv-loop changed hd e g fins q r₀ d₀ r d = Left fins changed hd e q g d r

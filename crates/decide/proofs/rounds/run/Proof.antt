@@ -1,3 +1,4 @@
+-- `decide::rounds::run` meets its contract. Assumes nothing.
 use Prim.Native.Nat.{_-_}
 use Rattle.decide.specs.Gather.{Empty}
 use Rattle.decide.proofs.Emptied.{empty-first}
@@ -6,13 +7,6 @@ use borrow.Author.Needs.{needs}
 use native.Mathlib.Omega.{arith}
 use Rattle.decide.proofs.rounds.run.Statement.{statement}
 use Rattle.decide.proofs.rounds.run.Tie as tie
-use Rattle.decide.proofs.rounds.run.Reads as reads
-use Rattle.decide.proofs.rounds.run.Lts as lts
-use Rattle.decide.proofs.heads.round_heads.Reads as round-heads-reads
-use Rattle.decide.proofs.rounds.begin.Reads as begin-reads
-use Rattle.decide.proofs.rounds.choose.Reads as choose-reads
-use Rattle.decide.proofs.rounds.judge.Reads as judge-reads
-use Rattle.decide.proofs.triples.round_triples.Reads as round-triples-reads
 
 abbrev Inv-loop : tie.InvT-loop
 Inv-loop size goal rules tg us heads₀ triples₀ budget by₀ nh₀ e₀ hd₀ n₀ t₀ heads triples by nh e hd n t =
@@ -47,7 +41,10 @@ enum-told : tie.Need-enum-told Inv-loop μ-loop
 enum-told c = search needs
 
 add-n : tie.Need-add-n Inv-loop μ-loop
-add-n c = let at = c .before .before .before .before .before in let d = at .before .before .before .before .before .pre in omega (arith, room (at .loop .inv .1) (c .before .before .judge .ensures) (c .enum-told .given .1) d)
+add-n c =
+    let at = c .before .before .before .before .before in
+    let d = at .before .before .before .before .before .pre in
+    omega (arith, room (at .loop .inv .1) (c .before .before .judge .ensures) (c .enum-told .given .1) d)
 
 round-heads-requires : tie.Need-round-heads-requires Inv-loop μ-loop
 round-heads-requires c κs =

@@ -1,3 +1,4 @@
+-- `decide::sets::collect` meets its contract. Assumes nothing.
 use lib.Count.{trailing-le}
 use Rattle.bits.proofs.Lowest.{cleared-less}
 use Rattle.decide.proofs.Choosing.{Left, left-first, left-next, left-last, lowest-low}
@@ -5,9 +6,6 @@ use borrow.Author.Needs.{needs}
 use native.Mathlib.Omega.{arith}
 use Rattle.decide.proofs.sets.collect.Statement.{statement}
 use Rattle.decide.proofs.sets.collect.Tie as tie
-use Rattle.decide.proofs.sets.collect.Reads as reads
-use Rattle.decide.proofs.sets.collect.Lts as lts
-use Rattle.decide.proofs.sets.join.Reads as join-reads
 
 abbrev Inv-loop : tie.InvT-loop
 Inv-loop sets from places d₀ w₀ d w = Left sets from places w₀ d w

@@ -1,42 +1,31 @@
+-- `decide::triples::rest` meets its contract. Assumes nothing.
 use mathlib.Core.Path.{_∙_}
 use Rattle.decide.proofs.Gathered.{rest-exit, rest-direct, rest-call}
-use native.Mathlib.Omega.{arith}
 use borrow.Author.Needs.{needs}
 use Rattle.decide.proofs.triples.rest.Statement.{statement}
 use Rattle.decide.proofs.triples.rest.Tie as tie
-use Rattle.decide.proofs.triples.rest.Reads as reads
-use Rattle.decide.proofs.triples.rest.Lts as lts
-use Rattle.decide.proofs.triples.times.Reads as times-reads
 
--- src/triples.rt:38:9
 returns : tie.Need-returns
 returns c = rest-exit _ _ _ _ (c .if1 .taken)
 
--- src/triples.rt:41:17
 mul-first : tie.Need-mul-first
 mul-first c = search needs
 
--- src/triples.rt:41:17
 element-copy-out-first : tie.Need-element-copy-out-first
 element-copy-out-first c = search needs
 
--- src/triples.rt:43:9
 returns-2 : tie.Need-returns-2
 returns-2 c = rest-direct _ _ _ _ (c .before .before .before .if1 .left) (c .if2 .taken)
 
--- src/triples.rt:46:18
 mul-times : tie.Need-mul-times
 mul-times c = search needs
 
--- src/triples.rt:46:18
 element-copy-out-times : tie.Need-element-copy-out-times
 element-copy-out-times c = search needs
 
--- src/triples.rt:46:5
 times-requires : tie.Need-times-requires
 times-requires c κs = search needs
 
--- src/triples.rt:32:1
 returns-3 : tie.Need-returns-3
 returns-3 c = let b = c .before .before in c .times .ensures ∙ rest-call _ _ _ _ (b .before .before .before .if1 .left) (b .if2 .left)
 

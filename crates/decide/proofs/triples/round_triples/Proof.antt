@@ -1,25 +1,19 @@
-use native.Mathlib.Omega.{arith}
-use borrow.Author.Needs.{needs}
+-- `decide::triples::round_triples` meets its contract. Assumes nothing.
 use Rattle.decide.proofs.triples.round_triples.Statement.{statement}
 use Rattle.decide.proofs.triples.round_triples.Tie as tie
-use Rattle.decide.proofs.triples.round_triples.Reads as reads
-use Rattle.decide.proofs.triples.round_triples.Lts as lts
-use Rattle.decide.proofs.triples.gather.Reads as gather-reads
-use Rattle.decide.proofs.triples.settle_all.Reads as settle-all-reads
 
--- src/triples.rt:149:9
 gather-requires : tie.Need-gather-requires
 gather-requires c κs = let s = c .before .before .before in (s .pre .few, s .pre .long)
 
--- src/triples.rt:150:5
 settle-all-requires : tie.Need-settle-all-requires
-settle-all-requires c κs = let gathered = c .before .before .before .gather .ensures in let s = c .before .before .before .before .before .before .before in (gathered .few, (s .pre .room, s .pre .fit gathered))
+settle-all-requires c κs =
+    let gathered = c .before .before .before .gather .ensures in
+    let s = c .before .before .before .before .before .before .before in
+    (gathered .few, (s .pre .room, s .pre .fit gathered))
 
--- src/triples.rt:136:1
 same-length : tie.Need-same-length
 same-length c = c .before .before .settle-all .ensures .table .as-long
 
--- src/triples.rt:136:1
 returns : tie.Need-returns
 returns c = record { touched = c .before .before .before .before .before .before .gather .result; gains = c .before .before .before .before .before .before .gather .ensures; took = c .before .before .settle-all .ensures }
 

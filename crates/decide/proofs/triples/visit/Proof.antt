@@ -1,49 +1,41 @@
+-- `decide::triples::visit` meets its contract. Assumes nothing.
 use Rattle.decide.proofs.Gathered.{visit-none, visit-some}
-use native.Mathlib.Omega.{arith}
 use borrow.Author.Needs.{needs}
 use Rattle.decide.proofs.triples.visit.Statement.{statement}
 use Rattle.decide.proofs.triples.visit.Tie as tie
-use Rattle.decide.proofs.triples.visit.Reads as reads
-use Rattle.decide.proofs.triples.visit.Lts as lts
-use Rattle.decide.proofs.rows.row_at.Reads as row-at-reads
-use Rattle.decide.proofs.sets.add.Reads as add-reads
-use Rattle.decide.proofs.triples.rest.Reads as rest-reads
 
--- src/triples.rt:48:9
 row-at-requires : tie.Need-row-at-requires
 row-at-requires c κs = search needs
 
--- src/triples.rt:49:9
 rest-requires : tie.Need-rest-requires
 rest-requires c κs = search needs
 
--- src/triples.rt:51:15
 mul-old : tie.Need-mul-old
 mul-old c = search needs
 
--- src/triples.rt:51:15
 element-copy-out-old : tie.Need-element-copy-out-old
 element-copy-out-old c = search needs
 
--- src/triples.rt:54:9
 returns : tie.Need-returns
-returns c = let row = c .before .before .before in let s = row .before in visit-none (row .row-at .ensures) (s .args .e .now) _ _ (s .pre .1 .0) (s .pre .1 .1) (c .before .before .rest .ensures) (c .if1 .taken)
+returns c =
+    let row = c .before .before .before in
+    let s = row .before in
+    visit-none (row .row-at .ensures) (s .args .e .now) _ _ (s .pre .1 .0) (s .pre .1 .1) (c .before .before .rest .ensures) (c .if1 .taken)
 
--- src/triples.rt:56:5
 mul-by : tie.Need-mul-by
 mul-by c = search needs
 
--- src/triples.rt:56:5
 element-write-by : tie.Need-element-write-by
 element-write-by c = search needs
 
--- src/triples.rt:57:5
 add-requires : tie.Need-add-requires
 add-requires c κs = search needs
 
--- src/triples.rt:42:1
 returns-2 : tie.Need-returns-2
-returns-2 c = let row = c .before .before .before .before .before in let s = row .before in visit-some (row .row-at .ensures) (s .args .e .now) _ _ (s .pre .1 .0) (s .pre .1 .1) (c .before .before .before .before .rest .ensures) (c .add .ensures)
+returns-2 c =
+    let row = c .before .before .before .before .before in
+    let s = row .before in
+    visit-some (row .row-at .ensures) (s .args .e .now) _ _ (s .pre .1 .0) (s .pre .1 .1) (c .before .before .before .before .rest .ensures) (c .add .ensures)
 
 pub visit-spec : {M : Type 1} → statement M
 visit-spec =
