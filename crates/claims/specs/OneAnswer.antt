@@ -3,7 +3,7 @@
 use mathlib.Core.Bool.{Bool}
 use mathlib.Core.List.{List, [], _∷_}
 use mathlib.Core.Path.{_≡_}
-use Prim.Native.Nat.{ℕ, _<_}
+use Prim.Native.Nat.{ℕ, _<_, _≤_}
 use lib.ListN.{length, take}
 use Rattle.product.specs.Lists.{over, upTo}
 use Rattle.product.specs.Product.{Step}
@@ -17,14 +17,14 @@ use Rattle.table.specs.Cells.{headCount, tripleCount, longEnough, headIn, tripl
 use Rattle.culprit.specs.declared.Goal.{Goal}
 use Rattle.culprit.specs.Culprit.{goalAs, culpritIn, cleanIn}
 use Rattle.model.specs.declared.Model.{Model}
-use Rattle.model.specs.declared.Shape.{Shape}
 use Rattle.model.specs.declared.Rule.{Rule}
 use Rattle.model.specs.declared.Next.{Next}
 use Rattle.model.specs.Answers.{ruleAs, nextAs, meant, landed}
-use Rattle.model.specs.Model.{ruleAt, nextAt}
-use Rattle.model.specs.Valid.{ofParts, valid}
+use Rattle.model.specs.Model.{move}
+use Rattle.model.specs.Valid.{valid}
+use Rattle.lent.specs.Lending.{shapeIn, modelIn, productIn, nextBy, InByte, Lends}
 use Rattle.bits.specs.Matrix.{multiplied, image}
-use Rattle.steps.specs.Steps.{classOf, classSteps, statesAfter}
+use Rattle.steps.specs.Steps.{classOf, symbolOf, classSteps, statesAfter}
 use Rattle.line.specs.Line as line
 use Rattle.modelline.specs.declared.Line.{Line}
 use Rattle.modelline.specs.Line as modelline
@@ -35,7 +35,7 @@ use Rattle.draft.specs.declared.Outline.{Outline}
 use Rattle.draft.specs.declared.Noted.{Noted}
 use Rattle.draft.specs.Draft.{whole, noted}
 use Rattle.draft.specs.Lines.{takeLine}
-use Rattle.fitting.specs.Fits.{fitOf}
+use Rattle.fitting.specs.Fits.{sizeOf, fitOf}
 use Rattle.ranking.specs.Rank.{headFault, headPut, tripleFault, triplePut, Ranked}
 use Rattle.rows.specs.declared.End.{End}
 use Rattle.rows.specs.State.{before, ended}
@@ -79,20 +79,24 @@ pub record OneAnswer : Type 0 where
   pub triple-count : (z : Size) → One (λ n. n ≡ tripleCount (z .symbols) (z .states))
   pub long-enough : (z : Size) (heads triples : List ℕ) → One (λ b. b ≡ longEnough (z .symbols) (z .states) (length heads) (length triples))
   -- culprit
-  pub culprit : (finals : List Bool) (z : Size) (heads triples : List ℕ) (s a : ℕ) → One (λ f. f ≡ goalAs (culpritIn finals (z .symbols) (z .states) heads triples s a))
-  pub is-clean : (finals : List Bool) (z : Size) (heads triples : List ℕ) (s a : ℕ) → One (λ b. b ≡ cleanIn finals (z .symbols) (z .states) heads triples s a)
-  -- model
-  pub is-valid : (m : Model) → One (λ b. b ≡ valid m)
-  pub parts-valid : (shape : Shape) (rulerows moverows : List ℕ) → One (λ b. b ≡ valid (ofParts shape rulerows moverows [] []))
-  pub rule-at : (rulerows : List ℕ) (r : ℕ) → One (λ ρ. ρ ≡ ruleAs (ruleAt rulerows r))
-  pub next-state : (rulerows moverows : List ℕ) (shows : List Bool) (r v q : ℕ) → One (λ n. n ≡ nextAs (nextAt rulerows moverows shows r v q))
+  pub culprit : (lent : List ℕ) (z : Size) (heads triples : List ℕ) (s a : ℕ) → One (λ f. f ≡ goalAs (culpritIn (productIn lent .final) (z .symbols) (z .states) heads triples s a))
+  pub is-clean : (lent : List ℕ) (z : Size) (heads triples : List ℕ) (s a : ℕ) → One (λ b. b ≡ cleanIn (productIn lent .final) (z .symbols) (z .states) heads triples s a)
+  -- lent
+  pub lend : (m : Model) → One (Lends m)
+  pub is-valid : (lent : List ℕ) → One (λ b. b ≡ valid (modelIn lent))
+  pub shape : (lent : List ℕ) → One (λ s. s ≡ shapeIn lent)
+  pub rule-at : (lent : List ℕ) (r : ℕ) → One (λ ρ. ρ ≡ ruleAs (productIn lent .rule r))
+  pub move-at : (lent : List ℕ) (v : ℕ) → One (λ μ. (μ ≡ move (modelIn lent) v) × (μ .target ≤ 255))
+  pub is-final : (lent : List ℕ) (q : ℕ) → One (λ b. b ≡ productIn lent .final q)
+  pub next-state : (lent : List ℕ) (r v q : ℕ) → One (λ n. (n ≡ nextAs (nextBy (productIn lent) r v q)) × InByte n)
   -- bits
   pub product : (a b : ℕ) → One (λ r. r ≡ multiplied a b)
   pub through : (v b : ℕ) → One (λ r. r ≡ image v b)
   -- steps
-  pub class-steps : (moverows : List ℕ) (shows : List Bool) (moves symbols : ℕ) → One (λ r. r ≡ classSteps moverows shows moves symbols)
-  pub class-of : (rulerows : List ℕ) (r : ℕ) → One (λ c. (c ≡ classOf rulerows r) × (c < 256))
-  pub states-after : (rulerows tg : List ℕ) (r from : ℕ) → One (λ x. x ≡ statesAfter rulerows tg r from)
+  pub class-steps : (lent : List ℕ) → One (λ r. r ≡ classSteps (modelIn lent))
+  pub class-of : (lent : List ℕ) (r : ℕ) → One (λ c. (c ≡ classOf (modelIn lent) r) × (c < 256))
+  pub symbol-of : (c : ℕ) → One (λ g. (g ≡ symbolOf c) × (g < 32))
+  pub states-after : (lent tg : List ℕ) (r from : ℕ) → One (λ x. x ≡ statesAfter (modelIn lent) tg r from)
   -- line, modelline and listingline
   pub spells : (s w : List ℕ) → One (λ r. r ≡ line.spells s w)
   pub read-from : (s : List ℕ) (b : ℕ) → One (λ r. r ≡ line.from s b)
@@ -103,7 +107,8 @@ pub record OneAnswer : Type 0 where
   pub take-line : (o : Outline) (finals shows : List Bool) (rulerows moverows : List ℕ) (l : Line)
       → One {A = Noted × List Bool × List Bool × List ℕ × List ℕ} (λ x. noted (x .0) (x .1) (x .2) (x .3) (x .4) ≡ takeLine (whole o finals shows rulerows moverows) l)
   -- fitting, ranking and rows
-  pub measure : (m : Model) (heads triples : ℕ) → One (λ r. r ≡ fitOf m heads triples)
+  pub size-of : (lent : List ℕ) → One (λ z. z ≡ sizeOf (modelIn lent))
+  pub measure : (lent : List ℕ) (heads triples : ℕ) → One (λ r. r ≡ fitOf (modelIn lent) heads triples)
   pub rank-head : (z : Size) (begun : ℕ) (cells : List ℕ) (n : Numbers) → Both (λ r after. Ranked cells after (headFault z begun cells n) (headPut z cells n) r)
   pub rank-triple : (z : Size) (begun : ℕ) (cells : List ℕ) (n : Numbers) → Both (λ r after. Ranked cells after (tripleFault z begun cells n) (triplePut z cells n) r)
   pub read-text : (z : Size) (heads triples text : List ℕ) → One {A = End × List ℕ × List ℕ} (λ x. ended (x .0) (x .1) (x .2) ≡ readText z (before heads triples) text)
@@ -125,8 +130,8 @@ pub record OneAnswer : Type 0 where
   -- closed
   pub rule-closed : (triples heads : List ℕ) (steps : ℕ) (ρ : Rule) → One (λ b. b ≡ ruleClosed triples heads steps (meant ρ))
   -- explain
-  pub explain : (rules moves : List ℕ) (shows : List Bool) (heads triples : List ℕ) (n : Counts) (f : Goal)
-      → One (λ w. w ≡ foundAs (byRank (whyIn rules moves shows (n .size .symbols) (n .size .states) heads triples (n .rules) (n .moves)) f (rankOf (view (n .size .symbols) (n .size .states) heads triples) f)))
+  pub explain : (lent heads triples : List ℕ) (n : Counts) (f : Goal)
+      → One (λ w. w ≡ foundAs (byRank (whyIn (productIn lent) (n .size .symbols) (n .size .states) heads triples (n .rules) (n .moves)) f (rankOf (view (n .size .symbols) (n .size .states) heads triples) f)))
   -- output
   pub front : (out : List ℕ) (k : ℕ) → One (λ part. part ≡ take k out)
   -- violation, refusal, report and rereport

@@ -14,7 +14,6 @@ use Rattle.product.specs.Rounds.{works}
 use Rattle.product.proofs.Lists.{over-over}
 use Rattle.model.specs.declared.Model.{Model}
 use Rattle.model.specs.Model.{productOf}
-use Rattle.model.proofs.Steps.{next-rows}
 use Rattle.culprit.specs.declared.Goal.the-variants.{Head, Triple}
 use Rattle.culprit.specs.First.{firstOf}
 use Rattle.explain.specs.Search.{stepOf, chances, tried, triedAt, byMove, byRule, searched}

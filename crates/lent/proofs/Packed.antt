@@ -6,12 +6,12 @@ use Prim.Native.Nat.{ℕ, _+_, _-_, _*_, _/_, _%_, _<_, _≤_}
 use native.Mathlib.Numerals.{add-one}
 use native.Mathlib.Omega.{arith}
 use lib.ListN.{length, getD, take, drop, set, length-append, length-drop, length-map, take-append-drop}
-use lib.Seq.{take-suc, take-suc-set, take-all, take-at, drop-at, take-append-le, drop-append-le, length-take-le}
+use lib.Seq.{drop-drop, take-suc, take-suc-set, take-all, take-at, drop-at, take-append-le, drop-append-le, length-take-le}
 use lib.Dec.{T}
 use Rattle.model.specs.declared.Model.{Model}
 use Rattle.model.specs.Valid.{valid}
 use Rattle.model.proofs.Valid.{Sizes, valid-sizes}
-use Rattle.lent.specs.Lending.{part, byteOf, truths, bytesOf, held, modelIn}
+use Rattle.lent.specs.Lending.{part, byteOf, truths, bytesOf, held, modelIn, shapeBytes, Lends}
 use Rattle.lent.specs.Packing.{putAt}
 use Rattle.lent.proofs.Parts.{in-part}
 
@@ -71,16 +71,25 @@ module _ (cells : List ℕ) (at : ℕ) (ys : List ℕ) (room : at + length ys �
       ∙ sym (part-front b k (take at cells) (drop at cells) (let e = front in omega arith))
       ∙ ap (part b k) (take-append-drop at cells)
 
--- the last numbers
-abbrev pub shapeOf : Model → List ℕ
-shapeOf m = m .symbols ∷ m .states ∷ m .events ∷ m .startstate ∷ m .startsymbol ∷ (m .rules % 256) ∷ (m .rules / 256 % 256) ∷ (m .moves % 256) ∷ []
+-- cells by their parts
+parts : (cells : List ℕ) → length cells ≡ 1936
+    → cells ≡ part 0 1024 cells ++ (part 1024 384 cells ++ (part 1408 512 cells ++ (part 1920 8 cells ++ part 1928 8 cells)))
+parts cells l =
+    cut cells 0 1024
+    ∙ ap (λ xs. part 0 1024 cells ++ xs) (cut cells 1024 384
+    ∙ ap (λ xs. part 1024 384 cells ++ xs) (cut cells 1408 512
+    ∙ ap (λ xs. part 1408 512 cells ++ xs) (cut cells 1920 8
+    ∙ ap (λ xs. part 1920 8 cells ++ xs) (sym (take-all 8 (drop 1928 cells) (let e = length-drop 1928 cells in omega arith))))))
+  where
+    cut : (xs : List ℕ) (at n : ℕ) → drop at xs ≡ part at n xs ++ drop (at + n) xs
+    cut xs at n = sym (take-append-drop n (drop at xs)) ∙ ap (λ ys. part at n xs ++ ys) (drop-drop n at xs)
 
 -- the record of cells that hold it part by part
 lent-is : (m : Model) (cells : List ℕ) → part 0 1024 cells ≡ m .rulerows → part 1024 384 cells ≡ m .moverows → truths (part 1408 512 cells) ≡ m .shows
-    → truths (part 1920 8 cells) ≡ m .finals → part 1928 8 cells ≡ shapeOf m → modelIn cells ≡ held m
+    → truths (part 1920 8 cells) ≡ m .finals → part 1928 8 cells ≡ shapeBytes m → modelIn cells ≡ held m
 unfolding modelIn
 lent-is m cells rs ms ss fs h =
-    let at : (i : ℕ) → i < 8 → getD cells (1928 + i) 0 ≡ getD (shapeOf m) i 0 = λ i l. in-part cells 1928 8 i (1928 + i) refl l ∙ ap (λ xs. getD xs i 0) h in
+    let at : (i : ℕ) → i < 8 → getD cells (1928 + i) 0 ≡ getD (shapeBytes m) i 0 = λ i l. in-part cells 1928 8 i (1928 + i) refl l ∙ ap (λ xs. getD xs i 0) h in
     let r : m .rules % 256 + 256 * (m .rules / 256 % 256) ≡ m .rules % 65536 = omega arith in
     rw (at 0 (omega arith), at 1 (omega arith), at 2 (omega arith), at 3 (omega arith), at 4 (omega arith), at 5 (omega arith), at 6 (omega arith), at 7 (omega arith), rs, ms, ss, fs, r)
 
@@ -88,7 +97,7 @@ lent-is m cells rs ms ss fs h =
 module _ (m : Model) (c0 c1 c2 c3 c4 c5 : List ℕ) (room : length c0 ≡ 1936)
     (rules : length (m .rulerows) ≡ 1024) (moves : length (m .moverows) ≡ 384) (shows : length (m .shows) ≡ 512) (finals : length (m .finals) ≡ 8)
     (p1 : c1 ≡ putAt c0 0 (m .rulerows)) (p2 : c2 ≡ putAt c1 1024 (m .moverows)) (p3 : c3 ≡ putAt c2 1408 (bytesOf (m .shows)))
-    (p4 : c4 ≡ putAt c3 1920 (bytesOf (m .finals))) (p5 : c5 ≡ putAt c4 1928 (shapeOf m)) where
+    (p4 : c4 ≡ putAt c3 1920 (bytesOf (m .finals))) (p5 : c5 ≡ putAt c4 1928 (shapeBytes m)) where
   r1 : length c1 ≡ 1936
   r1 = ap length p1 ∙ length-put c0 0 (m .rulerows) (omega arith) ∙ room
 
@@ -110,12 +119,12 @@ module _ (m : Model) (c0 c1 c2 c3 c4 c5 : List ℕ) (room : length c0 ≡ 1936)
   r4 : length c4 ≡ 1936
   r4 = ap length p4 ∙ length-put c3 1920 (bytesOf (m .finals)) e4 ∙ r3
 
-  e5 : 1928 + length (shapeOf m) ≤ length c4
+  e5 : 1928 + length (shapeBytes m) ≤ length c4
   e5 = let r = r4 in omega arith
 
   -- a part stays when later ones are put
   stays5 : (b k : ℕ) → b + k ≤ 1928 → part b k c5 ≡ part b k c4
-  stays5 b k l = ap (part b k) p5 ∙ part-below c4 1928 (shapeOf m) e5 b k l
+  stays5 b k l = ap (part b k) p5 ∙ part-below c4 1928 (shapeBytes m) e5 b k l
 
   stays4 : (b k : ℕ) → b + k ≤ 1920 → part b k c5 ≡ part b k c3
   stays4 b k l = stays5 b k (omega arith) ∙ ap (part b k) p4 ∙ part-below c3 1920 (bytesOf (m .finals)) e4 b k l
@@ -126,14 +135,26 @@ module _ (m : Model) (c0 c1 c2 c3 c4 c5 : List ℕ) (room : length c0 ≡ 1936)
   stays2 : (b k : ℕ) → b + k ≤ 1024 → part b k c5 ≡ part b k c1
   stays2 b k l = stays3 b k (omega arith) ∙ ap (part b k) p2 ∙ part-below c1 1024 (m .moverows) e2 b k l
 
-  pub filled-is : modelIn c5 ≡ held m
-  filled-is =
-      lent-is m c5
-      (stays2 0 1024 (omega arith) ∙ ap (part 0 1024) p1 ∙ part-put c0 0 (m .rulerows) (omega arith) 1024 rules)
-      (stays3 1024 384 (omega arith) ∙ ap (part 1024 384) p2 ∙ part-put c1 1024 (m .moverows) e2 384 moves)
-      (ap truths (stays4 1408 512 (omega arith) ∙ ap (part 1408 512) p3 ∙ part-put c2 1408 (bytesOf (m .shows)) e3 512 (length-bytes (m .shows) ∙ shows)) ∙ truths-bytes (m .shows))
-      (ap truths (stays5 1920 8 (omega arith) ∙ ap (part 1920 8) p4 ∙ part-put c3 1920 (bytesOf (m .finals)) e4 8 (length-bytes (m .finals) ∙ finals)) ∙ truths-bytes (m .finals))
-      (ap (part 1928 8) p5 ∙ part-put c4 1928 (shapeOf m) e5 8 refl)
+  is1 : part 0 1024 c5 ≡ m .rulerows
+  is1 = stays2 0 1024 (omega arith) ∙ ap (part 0 1024) p1 ∙ part-put c0 0 (m .rulerows) (omega arith) 1024 rules
+
+  is2 : part 1024 384 c5 ≡ m .moverows
+  is2 = stays3 1024 384 (omega arith) ∙ ap (part 1024 384) p2 ∙ part-put c1 1024 (m .moverows) e2 384 moves
+
+  is3 : part 1408 512 c5 ≡ bytesOf (m .shows)
+  is3 = stays4 1408 512 (omega arith) ∙ ap (part 1408 512) p3 ∙ part-put c2 1408 (bytesOf (m .shows)) e3 512 (length-bytes (m .shows) ∙ shows)
+
+  is4 : part 1920 8 c5 ≡ bytesOf (m .finals)
+  is4 = stays5 1920 8 (omega arith) ∙ ap (part 1920 8) p4 ∙ part-put c3 1920 (bytesOf (m .finals)) e4 8 (length-bytes (m .finals) ∙ finals)
+
+  is5 : part 1928 8 c5 ≡ shapeBytes m
+  is5 = ap (part 1928 8) p5 ∙ part-put c4 1928 (shapeBytes m) e5 8 refl
+
+  pub filled : Lends m c5
+  filled = record {
+    bytes = parts c5 (ap length p5 ∙ length-put c4 1928 (shapeBytes m) e5 ∙ r4) ∙ rw (is1, is2, is3, is4, is5);
+    means = lent-is m c5 is1 is2 (ap truths is3 ∙ truths-bytes (m .shows)) (ap truths is4 ∙ truths-bytes (m .finals)) is5;
+  }
 
 -- the bytes of a valid record are that record
 pub lends : (m : Model) (cells : List ℕ) → T (valid m) → modelIn cells ≡ held m → modelIn cells ≡ m

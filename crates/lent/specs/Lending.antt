@@ -2,9 +2,10 @@
 -- Four numbers a rule from 0 on, three a move from 1,024, a truth for each symbol and event from 1,408, one for each state that is final from 1,920;
 -- from 1,928 on symbols, states, events, start state, start symbol, the number of rules, its low byte first, and the number of moves.
 use mathlib.Core.Bool.{Bool, cond}
-use mathlib.Core.List.{List, map}
+use mathlib.Core.List.{List, [], _∷_, _++_, map}
 use mathlib.Core.Option.{Option}
-use Prim.Native.Nat.{ℕ, _+_, _*_, _%_, _≤_}
+use mathlib.Core.Path.{_≡_}
+use Prim.Native.Nat.{ℕ, _+_, _*_, _/_, _%_, _≤_}
 use lib.Dec.{eqb}
 use lib.ListN.{getD, take, drop}
 use Rattle.product.specs.Product.{Product}
@@ -88,3 +89,15 @@ held m = record {
   moves = m .moves % 256;
   moverows = m .moverows;
 }
+
+-- the bytes of a record: its rules, its moves, what is shown, what is final, and the rest of it in the order above
+abbrev pub shapeBytes : Model → List ℕ
+shapeBytes m = m .symbols ∷ m .states ∷ m .events ∷ m .startstate ∷ m .startsymbol ∷ (m .rules % 256) ∷ (m .rules / 256 % 256) ∷ (m .moves % 256) ∷ []
+
+abbrev pub packed : Model → List ℕ
+packed m = m .rulerows ++ (m .moverows ++ (bytesOf (m .shows) ++ (bytesOf (m .finals) ++ shapeBytes m)))
+
+-- what is lent for a record m: its bytes, and so the record itself
+pub record Lends (m : Model) (cells : List ℕ) : Type 0 where
+  pub bytes : cells ≡ packed m
+  pub means : modelIn cells ≡ held m

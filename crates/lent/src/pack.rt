@@ -2,7 +2,7 @@
 ghost use mathlib.Core.Path.{_≡_};
 ghost use Prim.Native.Nat.{_+_, _≤_};
 ghost use lib.ListN.{length};
-ghost use Rattle.lent.specs.Lending.{byteOf, bytesOf, held, modelIn};
+ghost use Rattle.lent.specs.Lending.{byteOf, bytesOf, Lends};
 ghost use Rattle.lent.specs.Packing.{putAt};
 use crate::Lent;
 use model::Model;
@@ -54,7 +54,7 @@ fn put_truths(cells: &mut [u8], at: usize, from: &[bool])
 
 fn fill(m: Model, cells: &mut [u8])
     requires { ⌜ length (now cells) ≡ 1936 ⌝ }
-    ensures { λ _. ⌜ modelIn (now (cells .exit)) ≡ held m ⌝ }
+    ensures { λ _. ⌜ Lends m (now (cells .exit)) ⌝ }
 {
     put(cells, 0, &m.rulerows);
     put(cells, 1024, &m.moverows);
@@ -75,7 +75,7 @@ fn fill(m: Model, cells: &mut [u8])
 
 // The bytes of a record, with its counts as far as they hold them.
 pub fn lend(m: Model) -> Lent
-    ensures { λ cells. ⌜ modelIn cells ≡ held m ⌝ }
+    ensures { λ cells. ⌜ Lends m cells ⌝ }
 {
     let mut cells = [0u8; 1936];
     fill(m, &mut cells);

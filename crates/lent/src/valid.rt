@@ -5,13 +5,35 @@ ghost use Prim.Native.Nat.{_≤_};
 ghost use lib.Dec.{leb};
 ghost use Rattle.product.specs.Lists.{all, upTo};
 ghost use Rattle.model.specs.Model.{ruleBy};
-ghost use Rattle.model.specs.Valid.{symbolsIn, ruleRowIn, moveRowIn, valid};
+ghost use Rattle.model.specs.Valid.{within, sizesIn, symbolsIn, ruleRowIn, moveRowIn, valid};
 ghost use Rattle.lent.specs.Lending.{part, modelIn};
 use crate::Lent;
 use crate::Row;
 use crate::move_at;
 use crate::row_at;
 use crate::shape;
+
+fn within(low: usize, high: usize, n: usize) -> bool
+    ensures { λ b. ⌜ b ≡ within low high n ⌝ }
+{
+    low <= n && n <= high
+}
+
+// The counts are within their sizes.
+fn sizes_in(symbols: usize, states: usize, events: usize, rules: usize, moves: usize) -> bool
+    ensures { λ b. ⌜ b ≡ sizesIn symbols states events rules moves ⌝ }
+{
+    if !within(1, 32, symbols) {
+        return false;
+    }
+    if !within(1, 8, states) {
+        return false;
+    }
+    if !within(1, 16, events) {
+        return false;
+    }
+    rules <= 256 && moves <= 128
+}
 
 // The row is a rule, with its symbols in range.
 fn row_in(row: Row, symbols: u8) -> bool
@@ -82,7 +104,7 @@ pub fn is_valid(m: &Lent) -> bool
     let s = shape(m);
     let states = s.states as usize;
     let events = s.events as usize;
-    if !model::sizes_in(s.symbols as usize, states, events, s.rules, s.moves) {
+    if !sizes_in(s.symbols as usize, states, events, s.rules, s.moves) {
         return false;
     }
     if s.states <= s.startstate {

@@ -21,7 +21,7 @@ put-model-requires c κs =
     let tested = lent .before in
     let seen = tested .before .before .before in
     let valid = model-valid (seen .read-or-refuse .ensures) (tested .if1 .taken) in
-    lent-valid _ (lent .lend .result) valid (lent .lend .ensures)
+    lent-valid _ (lent .lend .result) valid (lent .lend .ensures .means)
 
 same-length : tie.Need-same-length
 same-length c =
@@ -35,7 +35,7 @@ returns c =
     let tested = lent .before in
     let seen = tested .before .before .before in
     let valid = model-valid (seen .read-or-refuse .ensures) (tested .if1 .taken) in
-    accepted-put (seen .read-or-refuse .ensures) (tested .if1 .taken) modelOutput (lent-put _ valid (lent .lend .result) (lent .lend .ensures) (put .put-model .ensures))
+    accepted-put (seen .read-or-refuse .ensures) (tested .if1 .taken) modelOutput (lent-put _ valid (lent .lend .result) (lent .lend .ensures .means) (put .put-model .ensures))
 
 same-length-2 : tie.Need-same-length-2
 same-length-2 c = put-length (c .before .before .before .read-or-refuse .ensures .puts)

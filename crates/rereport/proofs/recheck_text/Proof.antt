@@ -46,7 +46,7 @@ put-listing-requires c κs =
     let tested = lent .before in
     let seen = tested .before .before .before in
     let valid = model-valid (seen .read-or-refuse .ensures) (tested .if1 .taken) in
-    lent-valid _ (lent .lend .result) valid (lent .lend .ensures)
+    lent-valid _ (lent .lend .result) valid (lent .lend .ensures .means)
 
 same-length : tie.Need-same-length
 same-length c =
@@ -64,7 +64,7 @@ returns c =
     let t = now (at .before .before .before .args .text) in
     let e = at .listing-at .ensures in
     seen-put t (model-front t e) (seen .read-or-refuse .ensures) (listing-rest t e) (tested .if1 .taken)
-    (lent-put _ valid (lent .lend .result) (lent .lend .ensures) _ _ _ (put .put-listing .ensures))
+    (lent-put _ valid (lent .lend .result) (lent .lend .ensures .means) _ _ _ (put .put-listing .ensures))
 
 same-length-2 : tie.Need-same-length-2
 same-length-2 c = put-length (c .before .before .before .read-or-refuse .ensures .puts)

@@ -11,8 +11,6 @@ use Rattle.explain.proofs.ways.first.Reads as first-reads
 use Rattle.explain.proofs.ways.second.Reads as second-reads
 use Rattle.explain.proofs.why.first_lower.Reads as first-lower-reads
 use Rattle.explain.proofs.why.source.Reads as source-reads
-use Rattle.model.proofs.next_state.Reads as next-state-reads
-use Rattle.model.proofs.rule_at.Reads as rule-at-reads
 
 source-requires : tie.Need-source-requires
 source-requires c κs = tt

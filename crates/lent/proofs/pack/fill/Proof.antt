@@ -1,7 +1,7 @@
 -- `lent::pack::fill` meets its contract: the parts are put in rising order, so that none covers another. Assumes nothing.
 use denote.Ref.{now}
 use borrow.Author.Needs.{needs}
-use Rattle.lent.proofs.Packed.{filled-is}
+use Rattle.lent.proofs.Packed.{filled}
 use Rattle.lent.proofs.pack.fill.Statement.{statement}
 use Rattle.lent.proofs.pack.fill.Tie as tie
 
@@ -43,7 +43,7 @@ returns c =
     let second = third .before .before .before .before .before .before .before in
     let first = second .before .before .before .before .before .before .before in
     let start = first .before .before .before .before .before .before in
-    filled-is (start .args .t1) (now (start .args .cells)) (first .put .last .0) (second .put2 .last .0) (third .put-truths .last .0) (fourth .put-truths2 .last .0)
+    filled (start .args .t1) (now (start .args .cells)) (first .put .last .0) (second .put2 .last .0) (third .put-truths .last .0) (fourth .put-truths2 .last .0)
     (last .put3 .last .0) (start .pre) (search needs) (search needs) (search needs) (search needs) (first .put .ensures) (second .put2 .ensures)
     (third .put-truths .ensures) (fourth .put-truths2 .ensures) (last .put3 .ensures)
 

@@ -1,9 +1,9 @@
--- `model::range::sizes_in` meets its contract. Assumes nothing.
+-- `lent::valid::sizes_in` meets its contract. Assumes nothing.
 use borrow.Author.Tests.{le-leb, lt-leb}
 use borrow.Author.Needs.{needs}
 use Rattle.model.proofs.Counted.{passed, failed}
-use Rattle.model.proofs.range.sizes_in.Statement.{statement}
-use Rattle.model.proofs.range.sizes_in.Tie as tie
+use Rattle.lent.proofs.valid.sizes_in.Statement.{statement}
+use Rattle.lent.proofs.valid.sizes_in.Tie as tie
 
 within-requires : tie.Need-within-requires
 within-requires c κs = search needs

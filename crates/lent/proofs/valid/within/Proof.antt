@@ -1,7 +1,7 @@
--- `model::range::within` meets its contract. Assumes nothing.
+-- `lent::valid::within` meets its contract. Assumes nothing.
 use borrow.Author.Tests.{le-leb, lt-leb}
-use Rattle.model.proofs.range.within.Statement.{statement}
-use Rattle.model.proofs.range.within.Tie as tie
+use Rattle.lent.proofs.valid.within.Statement.{statement}
+use Rattle.lent.proofs.valid.within.Tie as tie
 
 returns : tie.Need-returns
 returns c = rw (le-leb _ _ (c .if1 .taken))
