@@ -5,9 +5,8 @@ use mathlib.Core.List.{List, [], _∷_}
 use mathlib.Core.Path.{_≡_}
 use Prim.Native.Nat.{ℕ, _<_, _≤_}
 use lib.ListN.{length, take}
-use Rattle.product.specs.Lists.{over, upTo}
-use Rattle.product.specs.Product.{Step}
-use Rattle.product.specs.Facts.{head, consequences}
+use Rattle.product.specs.Lists.{over}
+use Rattle.product.specs.Facts.{head}
 use Rattle.text.specs.Split.{first, sameBytes}
 use Rattle.numbers.specs.declared.Numbers.{Numbers}
 use Rattle.numbers.specs.Field.{fieldsOf}
@@ -50,7 +49,6 @@ use Rattle.explain.specs.declared.Counts.{Counts}
 use Rattle.explain.specs.Answers.{foundAs, rankOf}
 use Rattle.explain.specs.Search.{whyIn, byRank}
 use Rattle.violation.specs.Bytes.{shown, violationBytes}
-use Rattle.refusal.specs.declared.Seen.{Seen}
 use Rattle.refusal.specs.Refusal.{refusedBytes, Seeing}
 use Rattle.report.specs.Output.{checkOutput}
 use Rattle.rereport.specs.Output.{recheckOutput}

@@ -5,13 +5,12 @@ use mathlib.Core.Option.{none, some}
 use mathlib.Core.Path.{_≡_, refl, sym, ap, ap₂, _∙_}
 use Prim.Native.Nat.{ℕ, _<_}
 use lib.Dec.{eqb}
-use lib.ListN.{getD}
 use borrow.Author.Tests.{eq-eqb, ne-eqb}
 use Rattle.product.specs.Lists.{upTo, over, each, find, any, all}
 use Rattle.product.specs.Product.{Product}
 use Rattle.product.specs.Facts.{Fact, head, triple, cells}
 use Rattle.product.specs.Rounds.{held}
-use Rattle.product.specs.Verdict.{violating, violated}
+use Rattle.product.specs.Verdict.{violating}
 use Rattle.product.specs.Table.{present, absent, ranks}
 use Rattle.product.specs.Trace.{culprit}
 use Rattle.product.specs.Check.{clean}
@@ -103,7 +102,3 @@ module _ (p : Product) (final : ℕ → Bool) (Q : ℕ) (states-are : p .states 
 
       pub culprit-held : culpritIn final G Q hs ts (p .start-state) (p .start-symbol) ≡ culprit p n
       culprit-held = culprit-found ∙ ap (λ (h : Fact → Bool). find (λ f. violating p f && h f) (cells p)) held-is
-
-      pub clean-held : cleanIn final G Q hs ts (p .start-state) (p .start-symbol) ≡ not (violated p n)
-      unfolding violated
-      clean-held = clean-found ∙ ap (clean p) held-is ∙ none-any (λ f. violating p f && held p n f) (cells p)

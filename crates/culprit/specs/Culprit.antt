@@ -4,7 +4,6 @@ use mathlib.Core.List.{List, [], _∷_}
 use mathlib.Core.Option.{Option, none, some}
 use Prim.Native.Nat.{ℕ}
 use lib.Dec.{eqb}
-use lib.ListN.{getD}
 use Rattle.product.specs.Lists.{find}
 use Rattle.product.specs.Facts.{Fact, head, triple}
 use Rattle.product.specs.Table.{absent}

@@ -7,14 +7,14 @@ use native.Mathlib.Omega.{arith}
 use lib.Dec.{T, eqb-refl, eqb·suc-zero, eqb·suc-suc}
 use lib.ListN.{getD}
 use Rattle.product.specs.Lists.{All, upTo}
-use Rattle.product.specs.Product.{Rule, exit, direct, call, symbol, pushed}
+use Rattle.product.specs.Product.{direct, call, symbol, pushed}
 use Rattle.product.proofs.Lists.{All-map, any-of, in-upTo, same-truth}
 use Rattle.model.specs.declared.Model.{Model}
 use Rattle.model.specs.Model as model
 use Rattle.model.specs.Model.{inRow, rule, productOf}
 use Rattle.model.specs.Valid.{valid}
 use Rattle.model.proofs.Valid.{valid-sizes, product-in}
-use Rattle.steps.specs.Steps.{symbolOf, classSteps}
+use Rattle.steps.specs.Steps.{classSteps}
 use Rattle.lent.specs.Lending.{part}
 use Rattle.lent.proofs.Parts.{in-part}
 use Rattle.steps.proofs.Laws.{symbol-same, step-entry, entry-step, steps-in}

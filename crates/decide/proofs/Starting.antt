@@ -1,22 +1,22 @@
 -- Round 0 of a valid model stands, with the rules for the first round; and what the rounds leave is what was promised. Assumes nothing.
-use mathlib.Core.Bool.{Bool, true, false, cond, not, _&&_, _||_}
-use mathlib.Core.List.{List, [], _++_}
-use mathlib.Core.Logic.{_⊎_, inl, inr, ⊎-elim}
+use mathlib.Core.Bool.{Bool, true, false, _&&_, _||_}
+use mathlib.Core.List.{List, _++_}
+use mathlib.Core.Logic.{_⊎_, ⊎-elim}
 use mathlib.Core.Path.{_≡_, refl, sym, ap, ap₂, _∙_, subst, subst⁻¹, fun-ext}
 use Prim.Native.Nat.{ℕ, zero, suc, _+_, _*_, _%_, _^_, _<_, _≤_}
 use native.Mathlib.Nat.{zero-add}
 use native.Mathlib.Omega.{arith}
 use native.Mathlib.Decide.{ℕ-discrete}
-use lib.Dec.{T, eqb, ltb, eqb→eq, ltb→lt, eqb-refl}
+use lib.Dec.{T, eqb, ltb, eqb→eq, ltb→lt}
 use lib.ListN.{length, length-set, drop, getD, set}
 use lib.Seq.{getD-set-same, getD-set-other}
 use borrow.Author.Tests.{eq-eqb, ne-eqb, lt-ltb}
 use Rattle.product.specs.Product.{Rule, exit, direct, call, symbol}
 use Rattle.product.specs.Facts.{Fact, head, triple, same, first}
-use Rattle.product.specs.Rounds.{grown, held}
-use Rattle.product.specs.Table.{Table, absent, ranks, left}
+use Rattle.product.specs.Rounds.{grown}
+use Rattle.product.specs.Table.{absent, ranks, left}
 use Rattle.product.specs.Verdict as product
-use Rattle.product.proofs.Lists.{and-left, and-right, both, in-upTo}
+use Rattle.product.proofs.Lists.{and-left, and-right, both}
 use Rattle.relations.specs.Quiet.{FirstT, FirstH}
 use Rattle.relations.proofs.Quiet.{enough-first}
 use Rattle.table.specs.declared.Size.{Size}
@@ -31,14 +31,12 @@ use Rattle.model.proofs.Valid.{valid-sizes, product-in}
 use Rattle.model.proofs.Bounds.{start-state-in, start-symbol-in}
 use Rattle.bits.specs.Bit.{bit}
 use Rattle.bits.specs.Matrix.{mat, mats}
-use Rattle.bits.proofs.Bit.{bit-zero}
 use Rattle.bits.proofs.Set.{bit-pow, one-shifted}
 use Rattle.steps.specs.Steps.{symbolOf, classSteps}
 use Rattle.decide.specs.declared.Decision.{Decision}
 use Rattle.decide.specs.declared.Goal.{Goal}
 use Rattle.decide.specs.declared.Next.{Next}
 use Rattle.decide.specs.Sets.{member, chosen}
-use Rattle.decide.specs.Stamp.{of-heads, of-triples, viewOf}
 use Rattle.decide.specs.Gather.{kindAt, classAt, overAt, underAt, zeros}
 use Rattle.decide.specs.Frame.{ruleBy}
 use Rattle.decide.specs.Standing.{Standing, Stored, Sets}
@@ -48,7 +46,7 @@ use Rattle.decide.specs.Build.{First, GoalOf}
 use Rattle.decide.specs.Ran.{shapeOf, Able, Started, Ran}
 use Rattle.decide.proofs.Gathered.{mat-none}
 use Rattle.decide.proofs.Emptied.{zeros-at}
-use Rattle.decide.proofs.Choosing.{no-member, off, collected-cases, collected-new}
+use Rattle.decide.proofs.Choosing.{no-member, collected-cases, collected-new}
 use Rattle.decide.proofs.Framed.{SameRows, row-lent, model-frame}
 
 -- a set of one

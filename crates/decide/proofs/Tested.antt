@@ -1,6 +1,6 @@
 -- What the tests of a call say: refusal 6, refusal 7, or that the rounds can run. Assumes nothing.
 use mathlib.Core.Bool.{Bool, true, false, not}
-use mathlib.Core.List.{List, []}
+use mathlib.Core.List.{List}
 use mathlib.Core.Path.{_≡_, sym, ap, _∙_, subst, subst⁻¹}
 use Prim.Native.Nat.{ℕ}
 use lib.Dec.{T}
@@ -16,7 +16,7 @@ use Rattle.table.specs.Cells as table
 use Rattle.decide.specs.declared.Decision.{Decision}
 use Rattle.decide.specs.declared.Decision.the-variants.{Invalid, Short}
 use Rattle.decide.specs.Decided.{longEnough, decision, headsLeft, triplesLeft, Decided}
-use Rattle.decide.specs.Ran.{shapeOf, Able, Ran}
+use Rattle.decide.specs.Ran.{Able, Ran}
 
 -- b is the answer to whether the model is valid
 module _ (m : Model) (budget : ℕ) (hs ts : List ℕ) {b : Bool} (tested : b ≡ valid m) where

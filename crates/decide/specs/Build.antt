@@ -1,11 +1,11 @@
 -- What the rounds are run on: the rules by what they need, the rules of the first round, and what is looked for. What serves the decision's own functions. Assumes nothing.
-use mathlib.Core.Bool.{Bool, false, _&&_, _||_}
+use mathlib.Core.Bool.{Bool, _&&_, _||_}
 use mathlib.Core.List.{List}
 use mathlib.Core.Logic.{_⊎_}
 use mathlib.Core.Path.{_≡_}
 use Prim.Native.Nat.{ℕ, _*_, _%_, _^_, _<_}
 use lib.Dec.{T, eqb, ltb}
-use lib.ListN.{length, getD}
+use lib.ListN.{length}
 use Rattle.bits.specs.Bit.{bit}
 use Rattle.model.specs.declared.Shape.{Shape}
 use Rattle.decide.specs.declared.Goal.{Goal}

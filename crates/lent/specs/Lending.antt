@@ -21,9 +21,9 @@ use Rattle.lent.specs.declared.Row.{Row}
 abbrev pub part : (from n : ℕ) → List ℕ → List ℕ
 part from n cells = take n (drop from cells)
 
--- a truth is 1
+-- a truth is an odd number
 abbrev pub isTrue : ℕ → Bool
-isTrue n = eqb n 1
+isTrue n = eqb (n % 2) 1
 
 abbrev pub byteOf : Bool → ℕ
 byteOf b = cond b 1 0

@@ -120,7 +120,7 @@ pub fn is_final(m: &Lent, q: usize) -> bool
     if 8 <= q {
         return false;
     }
-    m[1920 + q] == 1
+    m[1920 + q] % 2 == 1
 }
 
 // The symbol shows the event; every symbol shows event 0.
@@ -140,7 +140,7 @@ fn shows(m: &Lent, g: usize, e: usize) -> bool
     if 512 <= at {
         return false;
     }
-    m[1408 + at] == 1
+    m[1408 + at] % 2 == 1
 }
 
 // The symbol that a rule replaces.

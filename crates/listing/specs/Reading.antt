@@ -5,7 +5,6 @@ use Prim.Native.Nat.{ℕ, zero, suc}
 use lib.Dec.{eqb}
 use lib.ListN.{length, getD, set}
 use Rattle.text.specs.Split.{pick}
-use Rattle.table.specs.declared.Size.{Size}
 use Rattle.model.specs.declared.Model.{Model}
 use Rattle.fitting.specs.Fits.{sizeOf, headsOf, triplesOf, tested}
 use Rattle.rows.specs.State.{Ended}

@@ -12,7 +12,7 @@ use Rattle.product.specs.Runs.{State, step}
 use Rattle.product.proofs.Lists.{and-left, and-right, T-true}
 use Rattle.product.proofs.Closed.{none-some, step-of, step-elim}
 use Rattle.model.specs.declared.Model.{Model}
-use Rattle.model.specs.Model.{rule, move, shown, fitsAt, nextAt, there, productOf, Fits, Makes}
+use Rattle.model.specs.Model.{rule, move, shown, fitsAt, there, productOf, Fits, Makes}
 
 module _ (m : Model) (s : Step) where
   -- rule and move fit, by the rows alone
@@ -42,10 +42,6 @@ module _ (m : Model) (s : Step) where
       go true true x y e = (fits-is q (rw x tt) (rw y tt), cc)
       go true false x y e = none-some e
       go false b x y e = none-some e
-
-  -- by the rows alone, where rule and move are there
-  pub next-rows : s .by-rule < m .rules → s .by-move < m .moves → (q : ℕ) → productOf m .next s q ≡ nextAt (m .rulerows) (m .moverows) (m .shows) (s .by-rule) (s .by-move) q
-  next-rows i j q = rw (lt-ltb (s .by-rule) (m .rules) i, lt-ltb (s .by-move) (m .moves) j)
 
   pub fits-next : (q g : ℕ) → Fits m s q g → productOf m .next s q ≡ some (move m (s .by-move) .target)
   fits-next q g h = rw (

@@ -19,7 +19,7 @@ use Rattle.printing.specs.declared.Kind.the-variants.{Head, Triple}
 use Rattle.printing.specs.declared.Written.{Written}
 use Rattle.printing.specs.declared.Written.the-variants.{Invalid, Short, Bytes, Cut}
 use Rattle.printing.specs.Listing.{lineBytes, presentIn, cellsBytes, headerBytes, listingBytes}
-use Rattle.printing.specs.Writing.{Writes, Rows, Counts, Whole, bytesOf, fitted}
+use Rattle.printing.specs.Writing.{Writes, Rows, Whole, bytesOf, fitted}
 use Rattle.fitting.specs.declared.Fit.{Fit}
 use Rattle.fitting.specs.Fits.{sizeOf, fitOf, Fits}
 use Rattle.fitting.proofs.Tested.{cells-fit, heads-are, triples-are, size-is, is-invalid, is-short, is-well, tested-well}

@@ -1,6 +1,6 @@
 -- Each line that is taken keeps what holds of the draft. Assumes nothing.
-use mathlib.Core.Bool.{true, false}
-use mathlib.Core.List.{List, [], _∷_, _++_}
+use mathlib.Core.Bool.{false}
+use mathlib.Core.List.{[], _∷_, _++_}
 use mathlib.Core.Logic.{_⊎_, inl, inr}
 use mathlib.Core.Path.{_≡_, refl, ap}
 use Prim.Native.Nat.{ℕ, zero, suc, _+_, _*_, _≤_}
@@ -13,7 +13,6 @@ use Rattle.modelline.specs.declared.Word.{Word}
 use Rattle.modelline.specs.declared.Word.the-variants.{Size, Start, Final, Event, Exit, Direct, Call, Move, Unknown}
 use Rattle.model.specs.Model.{ruleBy}
 use Rattle.limits.specs.Limits.{RuleFits, Fits}
-use Rattle.limits.proofs.Passed.{fits}
 use Rattle.draft.specs.Draft.{Draft}
 use Rattle.draft.specs.Lines.{countsOf, ruleLine, after, takeLine}
 use Rattle.draft.proofs.Stores.{gone-on}

@@ -7,7 +7,6 @@ use Rattle.product.specs.Lists.{upTo, over, each, all, find, _∈_}
 use Rattle.product.specs.Product.{Step, ruleOf}
 use Rattle.product.specs.Facts.{Fact, waysTo, pairs}
 use Rattle.product.specs.Check.{keeps, closedAt}
-use Rattle.product.proofs.Lists.{All-over, All-each, All-at, upTo-lt}
 use Rattle.model.specs.declared.Model.{Model}
 use Rattle.model.specs.Model.{productOf}
 use Rattle.kept.specs.Kept.{nextKept}

@@ -17,7 +17,7 @@ use Rattle.refusal.proofs.Reading.{accepted-put, refused-put}
 use Rattle.splitter.specs.Part.{listingOf, modelPart}
 use Rattle.fitting.specs.Fits.{Fits}
 use Rattle.listing.specs.declared.ListingRead.{ListingRead}
-use Rattle.listing.specs.Reading.{number, linesOf, headsLeft, triplesLeft, Reads}
+use Rattle.listing.specs.Reading.{number, Reads}
 use Rattle.listing.specs.declared.ListingRead.the-variants.{Invalid, Short}
 use Rattle.fitting.proofs.Tested.{tested-well}
 use Rattle.recheck.specs.declared.Recheck.{Recheck}

@@ -25,7 +25,6 @@ use Rattle.recheck.specs.declared.Recheck.{Recheck}
 use Rattle.recheck.specs.declared.Recheck.the-variants.{Accepted, Invalid, Short, NoStart, Violating, Open}
 use Rattle.recheck.specs.Recheck.{sizeOf, longEnough, inTable, answer, recheck}
 use Rattle.rows.specs.State.{State}
-use Rattle.listing.specs.declared.ListingRead.{ListingRead}
 use Rattle.listing.specs.declared.ListingRead.the-variants as listing
 use Rattle.rows.specs.Lines.{longest, startState, ends, stepOf, finished, readFrom, readText}
 use Rattle.listing.specs.Reading.{number, linesOf, refusedAs, answerOf}

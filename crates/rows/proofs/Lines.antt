@@ -11,8 +11,7 @@ use Rattle.listingline.specs.Line.{lineOf, lineAt}
 use Rattle.listingline.specs.declared.LineRead.{LineRead}
 use Rattle.table.specs.declared.Size.{Size}
 use Rattle.rows.specs.declared.Tally.{Tally}
-use Rattle.rows.specs.declared.Tallied.{Tallied}
-use Rattle.rows.specs.State.{State, Step, Ended, whole, nothing, before, stepped, Counted}
+use Rattle.rows.specs.State.{State, Step, Ended, whole, nothing, before, Counted}
 use Rattle.rows.specs.Lines.{stepOf, ends, finished, readFrom, readLines, longest, readText}
 use Rattle.rows.proofs.Steps.{Fair, step-fair}
 

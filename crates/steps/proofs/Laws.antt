@@ -3,13 +3,13 @@ use mathlib.Core.Bool.{Bool, true, false, cond, _&&_}
 use mathlib.Core.List.{List}
 use mathlib.Core.Logic.{_↔_}
 use mathlib.Core.Option.{some}
-use mathlib.Core.Path.{_≡_, refl, sym, ap, _∙_, subst, subst⁻¹}
-use Prim.Native.Nat.{ℕ, zero, suc, _+_, _*_, _%_, _^_, _<_, min}
+use mathlib.Core.Path.{_≡_, refl, ap, _∙_, subst, subst⁻¹}
+use Prim.Native.Nat.{ℕ, _+_, _*_, _%_, _^_, _<_, min}
 use native.Mathlib.Decide.{decLt}
 use native.Mathlib.Nat.{zero-add}
 use native.Mathlib.Omega.{arith}
-use lib.Dec.{T, eqb, ltb, eqb→eq, ltb→lt, lt→ltb, lit<, eqb-refl, eqb·suc-zero, eqb·suc-suc}
-use lib.ListN.{length, getD}
+use lib.Dec.{T, eqb, ltb, eqb→eq, ltb→lt, lt→ltb, lit<, eqb-refl}
+use lib.ListN.{getD}
 use borrow.Author.Tests.{lt-ltb}
 use Rattle.product.specs.Product.{symbol, Step}
 use Rattle.product.proofs.Lists.{and-left, and-right, both, same-truth}
@@ -19,14 +19,14 @@ use Rattle.bits.proofs.Image.{image-at}
 use Rattle.bits.proofs.Set.{word-lt}
 use Rattle.bits.proofs.Some.{some-of, of-some}
 use Rattle.model.specs.declared.Model.{Model}
-use Rattle.model.specs.Model.{inRow, ruleBy, ruleAt, showsAt, rule, move, productOf}
+use Rattle.model.specs.Model.{showsAt, rule, move, productOf}
 use Rattle.model.specs.Valid.{valid}
 use Rattle.model.proofs.Bounds.{step-in}
 use Rattle.model.proofs.Steps.{next-is, fits-next}
 use Rattle.model.proofs.Valid.{valid-move, valid-sizes, product-in}
 use Rattle.steps.specs.Steps.{classOf, symbolOf, stepBy, stepsBy, stepsOf, classSteps, statesAfter}
 use Rattle.steps.specs.Steps as specs
-use Rattle.steps.proofs.Words.{matrix-at, zero-at, gathered-at, gathered-past, length-gathered}
+use Rattle.steps.proofs.Words.{matrix-at, zero-at, gathered-at, gathered-past}
 
 -- today a rule's class is its symbol
 pub class-is : (M : Model) (r : ℕ) → r < 256 → symbol (rule M r) ≡ classOf M r
@@ -42,10 +42,6 @@ unfolding symbolOf
 symbol-same c l = omega arith
 
 module _ (M : Model) where
-  pub length-steps : length (classSteps M) ≡ 256
-  unfolding classSteps
-  length-steps = length-gathered 256 (stepsOf M)
-
   steps-of : (c : ℕ) → getD (classSteps M) c 0 ≡ stepsOf M c
   unfolding classSteps stepsOf
   steps-of c = go (decLt c 256)

@@ -1,8 +1,8 @@
 // The steps of each class of rules, as matrices: from which state to which. A rule's class is what its steps do to the property state; with
 // one location that is its symbol.
-ghost use mathlib.Core.Bool.{cond, _&&_, _||_};
+ghost use mathlib.Core.Bool.{_&&_, _||_};
 ghost use mathlib.Core.Path.{_≡_};
-ghost use Prim.Native.Nat.{ℕ, _+_, _*_, _^_, _<_, _≤_, min};
+ghost use Prim.Native.Nat.{ℕ, _+_, _*_, _%_, _^_, _<_, _≤_, min};
 ghost use lib.ListN.{getD};
 ghost use Rattle.bits.specs.Bit.{bit};
 ghost use Rattle.bits.specs.Matrix.{some};
@@ -59,15 +59,13 @@ fn by_event(m: &Lent, moves: usize) -> [u64; 16]
     on
 }
 
-// Bit 8 k, if the truth is so: its mark in byte k of a word.
-fn mark(truth: bool, k: usize) -> u64
+// Byte k of a word, the others 0.
+fn placed(b: u8, k: usize) -> u64
     requires { ⌜ k < 8 ⌝ }
-    ensures { λ r. ⌜ r ≡ cond truth (2 ^ (k * 8)) 0 ⌝ }
+    ensures { λ r. ⌜ r ≡ (b * 2 ^ (k * 8)) % 2 ^ 64 ⌝ }
+    ensures { λ r. ⌜ b < 256 ⌝ }
 {
-    if truth {
-        return 1u64 << ((k * 8) as u64);
-    }
-    0
+    (b as u64) << ((k * 8) as u64)
 }
 
 // The eight truths from number `at` on, a byte each: as they lie in memory, so that the compiler reads them at once.
@@ -78,10 +76,10 @@ fn eight(m: &Lent, at: usize) -> u64
     let mut w: u64 = 0;
     let mut k: usize = 0;
     while k < 8 {
-        w = w | mark(m[1408 + at + k] == 1, k);
+        w = w | placed(m[1408 + at + k], k);
         k += 1;
     }
-    w
+    w & 0x0101010101010101
 }
 
 // m with the matrices of the events that are marked in w, whose first byte is that of event `from`.

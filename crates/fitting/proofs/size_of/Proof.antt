@@ -1,7 +1,6 @@
 -- `fitting::size_of` meets its contract. Assumes nothing.
 use mathlib.Core.Path.{ap}
 use borrow.Author.Needs.{needs}
-use Rattle.table.specs.declared.Size.{Size}
 use Rattle.model.specs.declared.Shape.{Shape}
 use Rattle.lent.specs.Lending.{modelIn}
 use Rattle.fitting.proofs.size_of.Statement.{statement}

@@ -1,5 +1,4 @@
 -- `rereport::put_heard` meets its contract. Assumes nothing.
-use Rattle.lent.specs.Lending.{modelIn}
 use Rattle.text.proofs.Puts.{put-length}
 use Rattle.rereport.proofs.Cases.{case-put, case-line}
 use native.Mathlib.Omega.{arith}

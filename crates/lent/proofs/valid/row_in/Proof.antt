@@ -1,6 +1,5 @@
 -- `lent::valid::row_in` meets its contract: the tests in the order of the code. Assumes nothing.
 use borrow.Author.Tests.{le-leb, lt-leb, lt-ltb, le-ltb}
-use borrow.Author.Needs.{needs}
 use Rattle.model.proofs.Tested.{kind-tested}
 use Rattle.lent.proofs.valid.row_in.Statement.{statement}
 use Rattle.lent.proofs.valid.row_in.Tie as tie
