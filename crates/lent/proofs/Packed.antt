@@ -2,15 +2,18 @@
 use mathlib.Core.Bool.{Bool, true, false}
 use mathlib.Core.List.{List, [], _∷_, _++_, map, map-append}
 use mathlib.Core.Path.{_≡_, refl, sym, ap, ap₂, _∙_, subst⁻¹}
-use Prim.Native.Nat.{ℕ, _+_, _-_, _*_, _/_, _%_, _<_, _≤_}
+use mathlib.Core.Logic.{_⊎_, inl, inr}
+use native.Mathlib.Decide.{decLt}
+use Prim.Native.Nat.{ℕ, min, _+_, _-_, _*_, _/_, _%_, _<_, _≤_}
 use native.Mathlib.Numerals.{add-one}
 use native.Mathlib.Omega.{arith}
 use lib.ListN.{length, getD, take, drop, set, length-append, length-drop, length-map, take-append-drop}
 use lib.Seq.{drop-drop, take-suc, take-suc-set, take-all, take-at, drop-at, take-append-le, drop-append-le, length-take-le}
 use lib.Dec.{T}
 use Rattle.model.specs.declared.Model.{Model}
-use Rattle.model.specs.Valid.{valid}
-use Rattle.model.proofs.Valid.{Sizes, valid-sizes}
+use Rattle.product.proofs.Lists.{T-true, same-truth}
+use Rattle.model.specs.Valid.{sizesIn, valid}
+use Rattle.model.proofs.Valid.{Sizes, few-rows, valid-sizes}
 use Rattle.lent.specs.Lending.{part, byteOf, truths, bytesOf, held, modelIn, shapeBytes, Lends}
 use Rattle.lent.specs.Packing.{putAt}
 use Rattle.lent.proofs.Parts.{in-part}
@@ -90,8 +93,40 @@ lent-is : (m : Model) (cells : List ℕ) → part 0 1024 cells ≡ m .rulerows �
 unfolding modelIn
 lent-is m cells rs ms ss fs h =
     let at : (i : ℕ) → i < 8 → getD cells (1928 + i) 0 ≡ getD (shapeBytes m) i 0 = λ i l. in-part cells 1928 8 i (1928 + i) refl l ∙ ap (λ xs. getD xs i 0) h in
-    let r : m .rules % 256 + 256 * (m .rules / 256 % 256) ≡ m .rules % 65536 = omega arith in
-    rw (at 0 (omega arith), at 1 (omega arith), at 2 (omega arith), at 3 (omega arith), at 4 (omega arith), at 5 (omega arith), at 6 (omega arith), at 7 (omega arith), rs, ms, ss, fs, r)
+    let n = min (m .rules) 65535 in
+    let r : n % 256 + 256 * (n / 256 % 256) ≡ n = omega arith in
+    let k : min (m .moves) 255 % 256 ≡ min (m .moves) 255 = omega arith in
+    rw (at 0 (omega arith), at 1 (omega arith), at 2 (omega arith), at 3 (omega arith), at 4 (omega arith), at 5 (omega arith), at 6 (omega arith), at 7 (omega arith), rs, ms, ss, fs, r, k)
+
+-- what the bytes hold of a record is valid exactly if the record is
+alike : (m : Model) → valid (held m) ≡ valid m
+unfolding valid
+alike m = go (decLt (m .rules) 65536) (decLt (m .moves) 256)
+  where
+    sized : ℕ → ℕ → Bool
+    sized r v = sizesIn (m .symbols) (m .states) (m .events) r v
+
+    few : (r v : ℕ) → (r ≤ 256 → ⊥) ⊎ (v ≤ 128 → ⊥) → sized r v ≡ false
+    few r v n = same-truth (sized r v) false (λ t. let (a, b) = few-rows (m .symbols) (m .states) (m .events) r v (T-true (sized r v) t) in no n a b) (λ t. absurd t)
+      where
+        no : (r ≤ 256 → ⊥) ⊎ (v ≤ 128 → ⊥) → r ≤ 256 → v ≤ 128 → ⊥
+        no (inl f) a b = f a
+        no (inr f) a b = f b
+
+    go : Dec (m .rules < 65536) → Dec (m .moves < 256) → valid (held m) ≡ valid m
+    go (yes a) (yes b) =
+        let r : min (m .rules) 65535 ≡ m .rules = omega arith in
+        let k : min (m .moves) 255 ≡ m .moves = omega arith in
+        rw (r, k)
+    go (no a) y = rw (few (min (m .rules) 65535) (min (m .moves) 255) (inl (λ l. omega arith)), few (m .rules) (m .moves) (inl (λ l. omega arith)))
+    go (yes a) (no b) = rw (few (min (m .rules) 65535) (min (m .moves) 255) (inr (λ l. omega arith)), few (m .rules) (m .moves) (inr (λ l. omega arith)))
+
+-- the last numbers, by the counts that were taken
+pub shape-put : (m : Model) (c : List ℕ) {c′ : List ℕ} {r v : ℕ} → r ≡ min (m .rules) 65535 → v ≡ min (m .moves) 255
+    → c′ ≡ putAt c 1928 (m .symbols ∷ m .states ∷ m .events ∷ m .startstate ∷ m .startsymbol ∷ (r % 256) ∷ (r / 256 % 256) ∷ (v % 256) ∷ [])
+    → c′ ≡ putAt c 1928 (shapeBytes m)
+shape-put m c a b e =
+    e ∙ ap₂ (λ r v. putAt c 1928 (m .symbols ∷ m .states ∷ m .events ∷ m .startstate ∷ m .startsymbol ∷ (r % 256) ∷ (r / 256 % 256) ∷ (v % 256) ∷ [])) a b
 
 -- the cells after each part, one after another
 module _ (m : Model) (c0 c1 c2 c3 c4 c5 : List ℕ) (room : length c0 ≡ 1936)
@@ -150,10 +185,14 @@ module _ (m : Model) (c0 c1 c2 c3 c4 c5 : List ℕ) (room : length c0 ≡ 1936)
   is5 : part 1928 8 c5 ≡ shapeBytes m
   is5 = ap (part 1928 8) p5 ∙ part-put c4 1928 (shapeBytes m) e5 8 refl
 
+  is-held : modelIn c5 ≡ held m
+  is-held = lent-is m c5 is1 is2 (ap truths is3 ∙ truths-bytes (m .shows)) (ap truths is4 ∙ truths-bytes (m .finals)) is5
+
   pub filled : Lends m c5
   filled = record {
     bytes = parts c5 (ap length p5 ∙ length-put c4 1928 (shapeBytes m) e5 ∙ r4) ∙ rw (is1, is2, is3, is4, is5);
-    means = lent-is m c5 is1 is2 (ap truths is3 ∙ truths-bytes (m .shows)) (ap truths is4 ∙ truths-bytes (m .finals)) is5;
+    means = is-held;
+    alike = ap valid is-held ∙ alike m;
   }
 
 -- the bytes of a valid record are that record
@@ -162,8 +201,8 @@ lends m cells v e =
     let z : Sizes m = valid-sizes m v in
     let few : m .rules ≤ 256 = z .rules in
     let fewer : m .moves ≤ 128 = z .moves in
-    let r : m .rules % 65536 ≡ m .rules = omega arith in
-    let k : m .moves % 256 ≡ m .moves = omega arith in
+    let r : min (m .rules) 65535 ≡ m .rules = omega arith in
+    let k : min (m .moves) 255 ≡ m .moves = omega arith in
     e ∙ rw (r, k)
 
 pub lent-valid : (m : Model) (cells : List ℕ) → T (valid m) → modelIn cells ≡ held m → T (valid (modelIn cells))

@@ -5,7 +5,7 @@ use mathlib.Core.Bool.{Bool, cond}
 use mathlib.Core.List.{List, [], _∷_, _++_, map}
 use mathlib.Core.Option.{Option}
 use mathlib.Core.Path.{_≡_}
-use Prim.Native.Nat.{ℕ, _+_, _*_, _/_, _%_, _≤_}
+use Prim.Native.Nat.{ℕ, _+_, _*_, _/_, _%_, _≤_, min}
 use lib.Dec.{eqb}
 use lib.ListN.{getD, take, drop}
 use Rattle.product.specs.Product.{Product}
@@ -14,7 +14,7 @@ use Rattle.model.specs.declared.Shape.{Shape}
 use Rattle.model.specs.declared.Next.{Next}
 use Rattle.model.specs.declared.Next.the-variants.{To, Stuck}
 use Rattle.model.specs.Model.{inRow, productOf}
-use Rattle.model.specs.Valid.{ofParts}
+use Rattle.model.specs.Valid.{ofParts, valid}
 use Rattle.lent.specs.declared.Row.{Row}
 
 -- n cells from a place on
@@ -74,7 +74,7 @@ abbrev pub InByte : Next → Type 0
 InByte Stuck = Unit {0}
 InByte (To q) = q ≤ 255
 
--- A record with its counts as far as the bytes hold them: 65,536 rules are as none, 256 moves likewise. A valid record has fewer.
+-- A record with its counts as far as the bytes hold them, 65,535 rules and 255 moves. A valid record has fewer, and one with more is not valid.
 abbrev pub held : Model → Model
 held m = record {
   symbols = m .symbols;
@@ -84,20 +84,21 @@ held m = record {
   startsymbol = m .startsymbol;
   finals = m .finals;
   shows = m .shows;
-  rules = m .rules % 65536;
+  rules = min (m .rules) 65535;
   rulerows = m .rulerows;
-  moves = m .moves % 256;
+  moves = min (m .moves) 255;
   moverows = m .moverows;
 }
 
 -- the bytes of a record: its rules, its moves, what is shown, what is final, and the rest of it in the order above
 abbrev pub shapeBytes : Model → List ℕ
-shapeBytes m = m .symbols ∷ m .states ∷ m .events ∷ m .startstate ∷ m .startsymbol ∷ (m .rules % 256) ∷ (m .rules / 256 % 256) ∷ (m .moves % 256) ∷ []
+shapeBytes m = m .symbols ∷ m .states ∷ m .events ∷ m .startstate ∷ m .startsymbol ∷ (min (m .rules) 65535 % 256) ∷ (min (m .rules) 65535 / 256 % 256) ∷ (min (m .moves) 255 % 256) ∷ []
 
 abbrev pub packed : Model → List ℕ
 packed m = m .rulerows ++ (m .moverows ++ (bytesOf (m .shows) ++ (bytesOf (m .finals) ++ shapeBytes m)))
 
--- what is lent for a record m: its bytes, and so the record itself
+-- what is lent for a record m: its bytes, which are the record itself, and are valid exactly if it is
 pub record Lends (m : Model) (cells : List ℕ) : Type 0 where
   pub bytes : cells ≡ packed m
   pub means : modelIn cells ≡ held m
+  pub alike : valid (modelIn cells) ≡ valid m

@@ -1,6 +1,6 @@
 // The bytes of a record, part by part.
 ghost use mathlib.Core.Path.{_≡_};
-ghost use Prim.Native.Nat.{_+_, _≤_};
+ghost use Prim.Native.Nat.{_+_, _≤_, min};
 ghost use lib.ListN.{length};
 ghost use Rattle.lent.specs.Lending.{byteOf, bytesOf, Lends};
 ghost use Rattle.lent.specs.Packing.{putAt};
@@ -52,10 +52,22 @@ fn put_truths(cells: &mut [u8], at: usize, from: &[bool])
     copy_truths(&mut cells[at..end], from);
 }
 
+fn least(a: usize, b: usize) -> usize
+    ensures { λ r. ⌜ r ≡ min a b ⌝ }
+{
+    if a < b {
+        return a;
+    }
+    b
+}
+
+// A count that the bytes cannot hold is given as the most that they can, which is too many for a valid model.
 fn fill(m: Model, cells: &mut [u8])
     requires { ⌜ length (now cells) ≡ 1936 ⌝ }
     ensures { λ _. ⌜ Lends m (now (cells .exit)) ⌝ }
 {
+    let rules = least(m.rules, 65535);
+    let moves = least(m.moves, 255);
     put(cells, 0, &m.rulerows);
     put(cells, 1024, &m.moverows);
     put_truths(cells, 1408, &m.shows);
@@ -66,14 +78,14 @@ fn fill(m: Model, cells: &mut [u8])
         m.events,
         m.startstate,
         m.startsymbol,
-        (m.rules % 256) as u8,
-        (m.rules / 256 % 256) as u8,
-        (m.moves % 256) as u8,
+        (rules % 256) as u8,
+        (rules / 256 % 256) as u8,
+        (moves % 256) as u8,
     ];
     put(cells, 1928, &shape);
 }
 
-// The bytes of a record, with its counts as far as they hold them.
+// The bytes of a record, valid or not.
 pub fn lend(m: Model) -> Lent
     ensures { λ cells. ⌜ Lends m cells ⌝ }
 {
