@@ -36,7 +36,7 @@ module _ (p : Product) (steps : List ℕ) where
   unfolding stepLines
   lines-none = refl
 
-  lines-more : (i : ℕ) → stepLines p steps i ++ line i ≡ stepLines p steps (i + 1)
+  pub lines-more : (i : ℕ) → stepLines p steps i ++ line i ≡ stepLines p steps (i + 1)
   unfolding stepLines
   lines-more i = sym (ap (λ n. over (upTo n) line) (add-one i) ∙ over-suc i line)
 

@@ -2,7 +2,7 @@
 use mathlib.Core.List.{List, [], _∷_, _++_}
 use mathlib.Core.Option.{some}
 use mathlib.Core.Path.{_≡_, refl, sym, ap, _∙_, subst}
-use Prim.Native.Nat.{ℕ, zero, suc, _<_, _≤_}
+use Prim.Native.Nat.{ℕ, zero, suc, _+_, _<_, _≤_}
 use native.Mathlib.Omega.{arith}
 use lib.ListN.{length, getD, take}
 use lib.Seq.{take-suc}
@@ -10,7 +10,8 @@ use Rattle.product.specs.Lists.{each}
 use Rattle.product.specs.Product.{Product, Step, loaded}
 use Rattle.product.specs.Runs.{State, start, step, Run}
 use Rattle.product.proofs.Closed.{step-elim}
-use Rattle.violation.specs.Bytes.{orStay, stepped, stateAfter}
+use Rattle.violation.specs.Bytes.{orStay, stepped, stateAfter, stepLine, stepLines}
+use Rattle.violation.proofs.Lines.{lines-more}
 
 -- the last step of a run
 last : (p : Product) (ss : List Step) (s : Step) (c d : State) → Run p c (ss ++ s ∷ []) d → (b : State) × Run p c ss b × (step p s b ≡ some d)
@@ -31,3 +32,8 @@ states-run p steps (suc i) c l h =
   where
     to : (s : Step) (b : State) → step p s b ≡ some c → c .0 ≡ orStay (b .0) (p .next s (b .0))
     to s b f = step-elim p s (λ b c. c .0 ≡ orStay (b .0) (p .next s (b .0))) (λ q q′ w e. sym (ap (orStay q) e)) b c f
+
+pub line-run : (p : Product) (steps : List ℕ) (i : ℕ) (c : State) → i < length steps → Run p (start p) (each (take (suc i) steps) loaded) c
+    → stepLines p steps (i + 1) ≡ stepLines p steps i ++ stepLine p (i + 1) (getD steps i 0) (c .0)
+line-run p steps i c l h =
+    sym (lines-more p steps i) ∙ ap (λ s. stepLines p steps i ++ stepLine p (i + 1) (getD steps i 0) s) (sym (states-run p steps (suc i) c (omega arith) h))
