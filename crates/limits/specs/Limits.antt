@@ -58,7 +58,7 @@ finalTests k n = judged (miscounted n 1) (unsized k) (leb (k .states) (nth n 0))
 abbrev pub eventTests : Counts → Numbers → Tests
 eventTests k n = judged (miscounted n 2) (unsized k) (leb (k .symbols) (nth n 0)) (leb (k .events) (nth n 1)) false false
 
--- a rule by the count of symbols that it takes: those that its line does not have are 0, which is always in range
+-- a rule by the count of symbols that it takes: those that a line does not have are read as 0, which is always in range
 abbrev pub ruleTests : (takes : ℕ) → Counts → Numbers → Tests
 ruleTests takes k n =
     judged (miscounted n takes) (unsized k) (leb (k .symbols) (nth n 0)) (leb (k .symbols) (nth n 1)) (leb (k .symbols) (nth n 2)) (leb 256 (k .rules))

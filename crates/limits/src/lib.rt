@@ -138,7 +138,7 @@ fn event_refusal(k: Counts, n: Numbers) -> u8
     )
 }
 
-// By the count of symbols that a rule takes. Those that its line does not have are 0, which is always in range.
+// By the count of symbols that a rule takes. Those that a line does not have are read as 0, which is always in range.
 fn rule_refusal(takes: usize, k: Counts, n: Numbers) -> u8
     ensures { λ r. ⌜ r ≡ refusal (ruleTests takes k n) ⌝ }
 {
