@@ -5,8 +5,8 @@
 ghost use Prim.Native.Nat.{_≤_};
 use answers::Said;
 use answers::TRACE_REFUSED;
+use lent::Lent;
 use libc::STDIN_FILENO;
-use model::Model;
 use numbers::Numbers;
 use replay::Replayed;
 use table::Size;
@@ -19,7 +19,7 @@ fn whole(n: u32) -> usize {
     n as usize
 }
 
-fn check<'a>(m: Model, heads: &'a [u16], triples: &'a [u16]) {
+fn check<'a>(m: &'a Lent, heads: &'a [u16], triples: &'a [u16]) {
     let r = recheck::check_table(m, heads, triples);
     answers::show(answers::of_check(r));
 }
@@ -34,16 +34,12 @@ fn show_table<'a>(size: Size, heads: &'a [u16], triples: &'a [u16]) {
 }
 
 // What the decision left, and the check of it.
-fn settled<'a>(m: Model, heads: &'a [u16], triples: &'a [u16]) {
-    let size = Size {
-        symbols: m.symbols,
-        states: m.states,
-    };
-    show_table(size, heads, triples);
+fn settled<'a>(m: &'a Lent, heads: &'a [u16], triples: &'a [u16]) {
+    show_table(fitting::size_of(m), heads, triples);
     check(m, heads, triples);
 }
 
-fn decided(m: Model, budget: u32, heads: &mut [u16], triples: &mut [u16]) {
+fn decided(m: &Lent, budget: u32, heads: &mut [u16], triples: &mut [u16]) {
     let d = decide::decide(m, budget, heads, triples);
     answers::show(answers::of_decision(d));
     settled(m, heads, triples);
@@ -69,7 +65,7 @@ fn show_replay(r: Replayed, stack: &[u8]) {
 }
 
 // The first k steps are those that were stored.
-fn replayed(m: Model, steps: &[u16], k: usize, stack: &mut [u8]) {
+fn replayed(m: &Lent, steps: &[u16], k: usize, stack: &mut [u8]) {
     show_steps(steps);
     if k <= steps.len() {
         let r = replay::replay_steps(m, &steps[..k], stack);
@@ -79,7 +75,7 @@ fn replayed(m: Model, steps: &[u16], k: usize, stack: &mut [u8]) {
 
 // The trace, and the replay of the steps that it stored.
 fn traced(
-    m: Model,
+    m: &Lent,
     budget: u32,
     heads: &mut [u16],
     triples: &mut [u16],
@@ -103,7 +99,7 @@ fn kept(short: u32, which: u32, n: usize) -> usize
 }
 
 // The decision between two checks, in arrays full of other numbers.
-fn call_decision(m: Model, budget: u32, short: u32) {
+fn call_decision(m: &Lent, budget: u32, short: u32) {
     let mut heads = [7u16; 260];
     let mut triples = [7u16; 2060];
     let h = kept(short, 1, 260);
@@ -113,7 +109,7 @@ fn call_decision(m: Model, budget: u32, short: u32) {
 }
 
 // The trace and its replay, in arrays that hold every fact at rank 0 beforehand.
-fn call_trace(m: Model, budget: u32, room: usize, short: u32) {
+fn call_trace(m: &Lent, budget: u32, room: usize, short: u32) {
     if 8200 < room {
         return;
     }
@@ -135,7 +131,7 @@ fn call_trace(m: Model, budget: u32, room: usize, short: u32) {
 }
 
 // The calls on a model, by the numbers that were given with it.
-fn call(m: Model, given: [u32; 4]) {
+fn call(m: &Lent, given: [u32; 4]) {
     let budget = given[1];
     let short = given[3];
     call_decision(m, budget, short);
@@ -147,7 +143,8 @@ fn answer(part: &[u8], numbers: Numbers) {
     let read = reader::read_model(part);
     if numbers.count == 4 {
         let given = numbers.at;
-        call(read.model, given);
+        let m = lent::lend(read.model);
+        call(&m, given);
         return;
     }
     reading::show_reading(read);

@@ -3,3 +3,4 @@ pub mod Deciding
 pub mod Tracing
 pub mod OneOutcome
 pub mod OneAnswer
+pub mod Printed

@@ -1,15 +1,14 @@
 -- The public calls that OneOutcome does not name: any two outcomes that a contract allows coincide. An entry a call, in its contract's own words.
 -- Assumes nothing.
-use mathlib.Core.Bool.{Bool, _||_}
+use mathlib.Core.Bool.{Bool}
 use mathlib.Core.List.{List, [], _∷_}
 use mathlib.Core.Path.{_≡_}
-use Prim.Native.Nat.{ℕ, _<_}
-use lib.Dec.{eqb}
-use lib.ListN.{length, getD, take}
-use Rattle.product.specs.Lists.{over, upTo}
-use Rattle.product.specs.Product.{Step}
-use Rattle.product.specs.Facts.{head, consequences}
+use Prim.Native.Nat.{ℕ, _<_, _≤_}
+use lib.ListN.{length, take}
+use Rattle.product.specs.Lists.{over}
+use Rattle.product.specs.Facts.{head}
 use Rattle.text.specs.Split.{first, sameBytes}
+use Rattle.numbers.specs.declared.Numbers.{Numbers}
 use Rattle.numbers.specs.Field.{fieldsOf}
 use Rattle.numbers.specs.Digits.{digitsOf}
 use Rattle.table.specs.declared.Size.{Size}
@@ -17,25 +16,26 @@ use Rattle.table.specs.Cells.{headCount, tripleCount, longEnough, headIn, tripl
 use Rattle.culprit.specs.declared.Goal.{Goal}
 use Rattle.culprit.specs.Culprit.{goalAs, culpritIn, cleanIn}
 use Rattle.model.specs.declared.Model.{Model}
-use Rattle.model.specs.declared.Shape.{Shape}
 use Rattle.model.specs.declared.Rule.{Rule}
 use Rattle.model.specs.declared.Next.{Next}
 use Rattle.model.specs.Answers.{ruleAs, nextAs, meant, landed}
-use Rattle.model.specs.Model.{ruleAt, nextAt}
-use Rattle.model.specs.Valid.{ofParts, valid}
+use Rattle.model.specs.Model.{move}
+use Rattle.model.specs.Valid.{valid}
+use Rattle.lent.specs.Lending.{shapeIn, modelIn, productIn, nextBy, InByte, Lends}
 use Rattle.bits.specs.Matrix.{multiplied, image}
-use Rattle.steps.specs.Steps.{classOf, classSteps, statesAfter}
-use Rattle.line.specs.declared.Word.{Word}
-use Rattle.line.specs.declared.Line.{Line}
-use Rattle.line.specs.Line.{lineAt}
+use Rattle.steps.specs.Steps.{classOf, symbolOf, classSteps, statesAfter}
+use Rattle.line.specs.Line as line
+use Rattle.modelline.specs.declared.Line.{Line}
+use Rattle.modelline.specs.Line as modelline
+use Rattle.listingline.specs.Line as listingline
 use Rattle.limits.specs.declared.Counts as limits
 use Rattle.limits.specs.Limits.{refusal, tests}
 use Rattle.draft.specs.declared.Outline.{Outline}
 use Rattle.draft.specs.declared.Noted.{Noted}
 use Rattle.draft.specs.Draft.{whole, noted}
 use Rattle.draft.specs.Lines.{takeLine}
-use Rattle.fitting.specs.Fits.{fitOf}
-use Rattle.ranking.specs.Rank.{headFault, tripleFault, Ranked}
+use Rattle.fitting.specs.Fits.{sizeOf, fitOf}
+use Rattle.ranking.specs.Rank.{headFault, headPut, tripleFault, triplePut, Ranked}
 use Rattle.rows.specs.declared.End.{End}
 use Rattle.rows.specs.State.{before, ended}
 use Rattle.rows.specs.Lines.{readText}
@@ -49,7 +49,6 @@ use Rattle.explain.specs.declared.Counts.{Counts}
 use Rattle.explain.specs.Answers.{foundAs, rankOf}
 use Rattle.explain.specs.Search.{whyIn, byRank}
 use Rattle.violation.specs.Bytes.{shown, violationBytes}
-use Rattle.refusal.specs.declared.Seen.{Seen}
 use Rattle.refusal.specs.Refusal.{refusedBytes, Seeing}
 use Rattle.report.specs.Output.{checkOutput}
 use Rattle.rereport.specs.Output.{recheckOutput}
@@ -66,8 +65,6 @@ pub record OneAnswer : Type 0 where
   -- text
   pub find : (s : List ℕ) (c : ℕ) → One (λ r. r ≡ length (first c s))
   pub same : (a b : List ℕ) → One (λ r. r ≡ sameBytes a b)
-  pub byte-at : (s : List ℕ) (e : ℕ) → One (λ r. r ≡ getD s e 10)
-  pub is-stop : (b : ℕ) → One (λ r. r ≡ (eqb b 9 || eqb b 10))
   pub read-fields : (s : List ℕ) → One (λ r. r ≡ fieldsOf s)
   pub write-number : (n : ℕ) → One (λ r. r ≡ digitsOf n)
   -- table
@@ -80,32 +77,38 @@ pub record OneAnswer : Type 0 where
   pub triple-count : (z : Size) → One (λ n. n ≡ tripleCount (z .symbols) (z .states))
   pub long-enough : (z : Size) (heads triples : List ℕ) → One (λ b. b ≡ longEnough (z .symbols) (z .states) (length heads) (length triples))
   -- culprit
-  pub culprit : (finals : List Bool) (z : Size) (heads triples : List ℕ) (s a : ℕ) → One (λ f. f ≡ goalAs (culpritIn finals (z .symbols) (z .states) heads triples s a))
-  pub is-clean : (finals : List Bool) (z : Size) (heads triples : List ℕ) (s a : ℕ) → One (λ b. b ≡ cleanIn finals (z .symbols) (z .states) heads triples s a)
-  -- model
-  pub is-valid : (m : Model) → One (λ b. b ≡ valid m)
-  pub parts-valid : (shape : Shape) (rulerows moverows : List ℕ) → One (λ b. b ≡ valid (ofParts shape rulerows moverows [] []))
-  pub rule-at : (rulerows : List ℕ) (r : ℕ) → One (λ ρ. ρ ≡ ruleAs (ruleAt rulerows r))
-  pub next-state : (rulerows moverows : List ℕ) (shows : List Bool) (r v q : ℕ) → One (λ n. n ≡ nextAs (nextAt rulerows moverows shows r v q))
+  pub culprit : (lent : List ℕ) (z : Size) (heads triples : List ℕ) (s a : ℕ) → One (λ f. f ≡ goalAs (culpritIn (productIn lent .final) (z .symbols) (z .states) heads triples s a))
+  pub is-clean : (lent : List ℕ) (z : Size) (heads triples : List ℕ) (s a : ℕ) → One (λ b. b ≡ cleanIn (productIn lent .final) (z .symbols) (z .states) heads triples s a)
+  -- lent
+  pub lend : (m : Model) → One (Lends m)
+  pub is-valid : (lent : List ℕ) → One (λ b. b ≡ valid (modelIn lent))
+  pub shape : (lent : List ℕ) → One (λ s. s ≡ shapeIn lent)
+  pub rule-at : (lent : List ℕ) (r : ℕ) → One (λ ρ. ρ ≡ ruleAs (productIn lent .rule r))
+  pub move-at : (lent : List ℕ) (v : ℕ) → One (λ μ. (μ ≡ move (modelIn lent) v) × (μ .target ≤ 255))
+  pub is-final : (lent : List ℕ) (q : ℕ) → One (λ b. b ≡ productIn lent .final q)
+  pub next-state : (lent : List ℕ) (r v q : ℕ) → One (λ n. (n ≡ nextAs (nextBy (productIn lent) r v q)) × InByte n)
   -- bits
   pub product : (a b : ℕ) → One (λ r. r ≡ multiplied a b)
   pub through : (v b : ℕ) → One (λ r. r ≡ image v b)
   -- steps
-  pub class-steps : (moverows : List ℕ) (shows : List Bool) (moves symbols : ℕ) → One (λ r. r ≡ classSteps moverows shows moves symbols)
-  pub class-of : (rulerows : List ℕ) (r : ℕ) → One (λ c. (c ≡ classOf rulerows r) × (c < 256))
-  pub states-after : (rulerows tg : List ℕ) (r from : ℕ) → One (λ x. x ≡ statesAfter rulerows tg r from)
-  -- line
-  pub read-line : (s : List ℕ) → One (λ r. r ≡ lineAt s)
+  pub class-steps : (lent : List ℕ) → One (λ r. r ≡ classSteps (modelIn lent))
+  pub class-of : (lent : List ℕ) (r : ℕ) → One (λ c. (c ≡ classOf (modelIn lent) r) × (c < 256))
+  pub symbol-of : (c : ℕ) → One (λ g. (g ≡ symbolOf c) × (g < 32))
+  pub states-after : (lent tg : List ℕ) (r from : ℕ) → One (λ x. x ≡ statesAfter (modelIn lent) tg r from)
+  -- line, modelline and listingline
+  pub spells : (s w : List ℕ) → One (λ r. r ≡ line.spells s w)
+  pub read-from : (s : List ℕ) (b : ℕ) → One (λ r. r ≡ line.from s b)
+  pub model-line : (s : List ℕ) → One (λ r. r ≡ modelline.lineAt s)
+  pub listing-line : (s : List ℕ) → One (λ r. r ≡ listingline.lineAt s)
   -- limits and draft
-  pub refusal-of : (k : limits.Counts) (w : Word) (a b c : ℕ) → One (λ r. r ≡ refusal (tests k w a b c))
+  pub refusal-of : (k : limits.Counts) (l : Line) → One (λ r. r ≡ refusal (tests k (l .word) (l .numbers)))
   pub take-line : (o : Outline) (finals shows : List Bool) (rulerows moverows : List ℕ) (l : Line)
       → One {A = Noted × List Bool × List Bool × List ℕ × List ℕ} (λ x. noted (x .0) (x .1) (x .2) (x .3) (x .4) ≡ takeLine (whole o finals shows rulerows moverows) l)
   -- fitting, ranking and rows
-  pub measure : (m : Model) (heads triples : ℕ) → One (λ r. r ≡ fitOf m heads triples)
-  pub rank-head : (z : Size) (begun : ℕ) (cells : List ℕ) (q g rank : ℕ)
-      → Both (λ r after. Ranked cells after (headFault z begun cells q g rank) (putHead (z .symbols) (z .states) cells q g rank) r)
-  pub rank-triple : (z : Size) (begun : ℕ) (cells : List ℕ) (q g e rank : ℕ)
-      → Both (λ r after. Ranked cells after (tripleFault z begun cells q g e rank) (putTriple (z .symbols) (z .states) cells q g e rank) r)
+  pub size-of : (lent : List ℕ) → One (λ z. z ≡ sizeOf (modelIn lent))
+  pub measure : (lent : List ℕ) (heads triples : ℕ) → One (λ r. r ≡ fitOf (modelIn lent) heads triples)
+  pub rank-head : (z : Size) (begun : ℕ) (cells : List ℕ) (n : Numbers) → Both (λ r after. Ranked cells after (headFault z begun cells n) (headPut z cells n) r)
+  pub rank-triple : (z : Size) (begun : ℕ) (cells : List ℕ) (n : Numbers) → Both (λ r after. Ranked cells after (tripleFault z begun cells n) (triplePut z cells n) r)
   pub read-text : (z : Size) (heads triples text : List ℕ) → One {A = End × List ℕ × List ℕ} (λ x. ended (x .0) (x .1) (x .2) ≡ readText z (before heads triples) text)
   -- splitter
   pub listing-at : (text : List ℕ) → One (λ r. r ≡ part.place text)
@@ -125,8 +128,8 @@ pub record OneAnswer : Type 0 where
   -- closed
   pub rule-closed : (triples heads : List ℕ) (steps : ℕ) (ρ : Rule) → One (λ b. b ≡ ruleClosed triples heads steps (meant ρ))
   -- explain
-  pub explain : (rules moves : List ℕ) (shows : List Bool) (heads triples : List ℕ) (n : Counts) (f : Goal)
-      → One (λ w. w ≡ foundAs (byRank (whyIn rules moves shows (n .size .symbols) (n .size .states) heads triples (n .rules) (n .moves)) f (rankOf (view (n .size .symbols) (n .size .states) heads triples) f)))
+  pub explain : (lent heads triples : List ℕ) (n : Counts) (f : Goal)
+      → One (λ w. w ≡ foundAs (byRank (whyIn (productIn lent) (n .size .symbols) (n .size .states) heads triples (n .rules) (n .moves)) f (rankOf (view (n .size .symbols) (n .size .states) heads triples) f)))
   -- output
   pub front : (out : List ℕ) (k : ℕ) → One (λ part. part ≡ take k out)
   -- violation, refusal, report and rereport

@@ -5,13 +5,12 @@ use mathlib.Core.Option.{none, some}
 use mathlib.Core.Path.{_≡_, refl, sym, ap, ap₂, _∙_}
 use Prim.Native.Nat.{ℕ, _<_}
 use lib.Dec.{eqb}
-use lib.ListN.{getD}
 use borrow.Author.Tests.{eq-eqb, ne-eqb}
 use Rattle.product.specs.Lists.{upTo, over, each, find, any, all}
 use Rattle.product.specs.Product.{Product}
 use Rattle.product.specs.Facts.{Fact, head, triple, cells}
 use Rattle.product.specs.Rounds.{held}
-use Rattle.product.specs.Verdict.{violating, violated}
+use Rattle.product.specs.Verdict.{violating}
 use Rattle.product.specs.Table.{present, absent, ranks}
 use Rattle.product.specs.Trace.{culprit}
 use Rattle.product.specs.Check.{clean}
@@ -38,7 +37,7 @@ none-any p (f ∷ fs) = go (none-any p fs) (p f)
     go ih true = refl
     go ih false = ih
 
-module _ (p : Product) (finals : List Bool) (Q : ℕ) (states-are : p .states ≡ upTo Q) (final-is : (q : ℕ) → p .final q ≡ getD finals q false) (hs ts : List ℕ) where
+module _ (p : Product) (final : ℕ → Bool) (Q : ℕ) (states-are : p .states ≡ upTo Q) (final-is : (q : ℕ) → p .final q ≡ final q) (hs ts : List ℕ) where
   abbrev G : ℕ
   G = p .symbols
 
@@ -51,14 +50,14 @@ module _ (p : Product) (finals : List Bool) (Q : ℕ) (states-are : p .states �
   abbrev triples : (q g : ℕ) → List Fact
   triples q g = each (upTo Q) (triple q g)
 
-  its-head : (q g : ℕ) → find P (head q g ∷ []) ≡ headAt finals G Q hs q g
+  its-head : (q g : ℕ) → find P (head q g ∷ []) ≡ headAt final G Q hs q g
   its-head q g = ap (λ b. onlyIf (b && there (head q g)) (head q g)) (final-is q)
 
-  heads-found : find P (over (upTo Q) (λ q. each (upTo G) (head q))) ≡ someHead finals G Q hs
+  heads-found : find P (over (upTo Q) (λ q. each (upTo G) (head q))) ≡ someHead final G Q hs
   heads-found =
       find-over P Q (λ q. each (upTo G) (head q))
-      ∙ first-same (λ q. find P (each (upTo G) (head q))) (headOf finals G Q hs) Q λ q _.
-      find-over P G (λ g. head q g ∷ []) ∙ first-same (λ g. find P (head q g ∷ [])) (headAt finals G Q hs q) G (λ g _. its-head q g)
+      ∙ first-same (λ q. find P (each (upTo G) (head q))) (headOf final G Q hs) Q λ q _.
+      find-over P G (λ g. head q g ∷ []) ∙ first-same (λ g. find P (head q g ∷ [])) (headAt final G Q hs q) G (λ g _. its-head q g)
 
   -- a triple from another state or symbol is no violating one
   other-state : (q : ℕ) → (q ≡ p .start-state → ⊥) → (g e : ℕ) → P (triple q g e) ≡ false
@@ -71,13 +70,13 @@ module _ (p : Product) (finals : List Bool) (Q : ℕ) (states-are : p .states �
       go true = refl
       go false = refl
 
-  its-triple : (e : ℕ) → find P (triple (p .start-state) (p .start-symbol) e ∷ []) ≡ tripleAt finals G Q ts (p .start-state) (p .start-symbol) e
+  its-triple : (e : ℕ) → find P (triple (p .start-state) (p .start-symbol) e ∷ []) ≡ tripleAt final G Q ts (p .start-state) (p .start-symbol) e
   its-triple e =
       let t : Fact = triple (p .start-state) (p .start-symbol) e in
       rw (eq-eqb (p .start-state) (p .start-state) refl, eq-eqb (p .start-symbol) (p .start-symbol) refl) (ap (λ b. onlyIf (b && there t) t) (final-is e))
 
   module _ (i : p .start-state < Q) (j : p .start-symbol < p .symbols) where
-    triples-found : find P (over (upTo Q) (λ q. over (upTo G) (λ g. triples q g))) ≡ someTriple finals G Q ts (p .start-state) (p .start-symbol)
+    triples-found : find P (over (upTo Q) (λ q. over (upTo G) (λ g. triples q g))) ≡ someTriple final G Q ts (p .start-state) (p .start-symbol)
     triples-found =
         find-over P Q (λ q. over (upTo G) (λ g. triples q g))
         ∙ first-only (λ q. find P (over (upTo G) (λ g. triples q g))) Q (p .start-state) i
@@ -85,15 +84,15 @@ module _ (p : Product) (finals : List Bool) (Q : ℕ) (states-are : p .states �
         ∙ find-over P G (triples (p .start-state))
         ∙ first-only (λ g. find P (triples (p .start-state) g)) G (p .start-symbol) j (λ g n. find-fails P Q (triple (p .start-state) g) (other-symbol (p .start-state) g n))
         ∙ find-over P Q (λ e. triple (p .start-state) (p .start-symbol) e ∷ [])
-        ∙ first-same (λ e. find P (triple (p .start-state) (p .start-symbol) e ∷ [])) (tripleAt finals G Q ts (p .start-state) (p .start-symbol)) Q (λ e _. its-triple e)
+        ∙ first-same (λ e. find P (triple (p .start-state) (p .start-symbol) e ∷ [])) (tripleAt final G Q ts (p .start-state) (p .start-symbol)) Q (λ e _. its-triple e)
 
-    pub culprit-found : culpritIn finals G Q hs ts (p .start-state) (p .start-symbol) ≡ find P (cells p)
+    pub culprit-found : culpritIn final G Q hs ts (p .start-state) (p .start-symbol) ≡ find P (cells p)
     culprit-found =
         sym (find-append P (over (upTo Q) (λ q. each (upTo G) (head q))) (over (upTo Q) (λ q. over (upTo G) (λ g. triples q g))) ∙ ap₂ orElse heads-found triples-found)
         ∙ ap (λ S. find P (over S (λ q. each (upTo G) (head q)) ++ over S (λ q. over (upTo G) (λ g. each S (triple q g))))) (sym states-are)
 
     -- it is none exactly if no violating fact is there
-    pub clean-found : cleanIn finals G Q hs ts (p .start-state) (p .start-symbol) ≡ clean p there
+    pub clean-found : cleanIn final G Q hs ts (p .start-state) (p .start-symbol) ≡ clean p there
     clean-found = ap nothing culprit-found ∙ none-all P (cells p)
 
     -- where the arrays hold the ranks up to n: the violating fact that is held after round n
@@ -101,9 +100,5 @@ module _ (p : Product) (finals : List Bool) (Q : ℕ) (states-are : p .states �
       held-is : there ≡ held p n
       held-is = ap present e ∙ present-held p n l
 
-      pub culprit-held : culpritIn finals G Q hs ts (p .start-state) (p .start-symbol) ≡ culprit p n
+      pub culprit-held : culpritIn final G Q hs ts (p .start-state) (p .start-symbol) ≡ culprit p n
       culprit-held = culprit-found ∙ ap (λ (h : Fact → Bool). find (λ f. violating p f && h f) (cells p)) held-is
-
-      pub clean-held : cleanIn finals G Q hs ts (p .start-state) (p .start-symbol) ≡ not (violated p n)
-      unfolding violated
-      clean-held = clean-found ∙ ap (clean p) held-is ∙ none-any (λ f. violating p f && held p n f) (cells p)

@@ -1,8 +1,8 @@
 // The violating fact that is taken of those that the two lent arrays hold: heads before triples, then lowest state, symbol and end state.
-ghost use mathlib.Core.Bool.{false};
 ghost use mathlib.Core.Path.{_≡_};
-ghost use lib.ListN.{getD};
+ghost use Rattle.lent.specs.Lending.{productIn};
 ghost use Rattle.culprit.specs.Culprit.{goalAs, guiltyHead, guiltyTriple, someHead, someTriple, culpritIn, cleanIn};
+use lent::Lent;
 use table::Size;
 
 // A fact whose run is asked for: a head, a triple; or none is.
@@ -12,44 +12,34 @@ pub enum Goal {
     Triple(usize, usize, usize),
 }
 
-// The state is final; one past the array isn't.
-fn is_final(finals: &[bool], q: usize) -> bool
-    ensures { λ b. ⌜ b ≡ getD (now (finals .entry)) q false ⌝ }
+fn guilty_head<'a>(m: &'a Lent, heads: &'a [u16], size: Size, q: usize, g: usize) -> bool
+    ensures { λ b. ⌜ b ≡ guiltyHead (productIn (now (m .entry)) .final) (size .symbols) (size .states) (now (heads .entry)) q g ⌝ }
 {
-    if finals.len() <= q {
-        return false;
-    }
-    finals[q]
-}
-
-fn guilty_head<'a>(finals: &'a [bool; 8], heads: &'a [u16], size: Size, q: usize, g: usize) -> bool
-    ensures { λ b. ⌜ b ≡ guiltyHead (now (finals .entry)) (size .symbols) (size .states) (now (heads .entry)) q g ⌝ }
-{
-    if !is_final(finals, q) {
+    if !lent::is_final(m, q) {
         return false;
     }
     table::head_at(heads, size, q, g) != table::ABSENT
 }
 
 fn guilty_triple<'a>(
-    finals: &'a [bool; 8],
+    m: &'a Lent,
     triples: &'a [u16],
     size: Size,
     q: usize,
     g: usize,
     e: usize,
 ) -> bool
-    ensures { λ b. ⌜ b ≡ guiltyTriple (now (finals .entry)) (size .symbols) (size .states) (now (triples .entry)) q g e ⌝ }
+    ensures { λ b. ⌜ b ≡ guiltyTriple (productIn (now (m .entry)) .final) (size .symbols) (size .states) (now (triples .entry)) q g e ⌝ }
 {
-    if !is_final(finals, e) {
+    if !lent::is_final(m, e) {
         return false;
     }
     table::triple_at(triples, size, q, g, e) != table::ABSENT
 }
 
 // The first head that is held in a final state.
-fn some_head<'a>(finals: &'a [bool; 8], heads: &'a [u16], size: Size) -> Goal
-    ensures { λ f. ⌜ f ≡ goalAs (someHead (now (finals .entry)) (size .symbols) (size .states) (now (heads .entry))) ⌝ }
+fn some_head<'a>(m: &'a Lent, heads: &'a [u16], size: Size) -> Goal
+    ensures { λ f. ⌜ f ≡ goalAs (someHead (productIn (now (m .entry)) .final) (size .symbols) (size .states) (now (heads .entry))) ⌝ }
 {
     let states = size.states as usize;
     let symbols = size.symbols as usize;
@@ -60,7 +50,7 @@ fn some_head<'a>(finals: &'a [bool; 8], heads: &'a [u16], size: Size) -> Goal
         }
         let mut g: usize = 0;
         'symbols: while g < symbols {
-            if guilty_head(finals, heads, size, q, g) {
+            if guilty_head(m, heads, size, q, g) {
                 break 'found Goal::Head(q, g);
             }
             g += 1;
@@ -70,19 +60,13 @@ fn some_head<'a>(finals: &'a [bool; 8], heads: &'a [u16], size: Size) -> Goal
 }
 
 // The first triple that is held from the state s and the symbol a into a final state.
-fn some_triple<'a>(
-    finals: &'a [bool; 8],
-    triples: &'a [u16],
-    size: Size,
-    s: usize,
-    a: usize,
-) -> Goal
-    ensures { λ f. ⌜ f ≡ goalAs (someTriple (now (finals .entry)) (size .symbols) (size .states) (now (triples .entry)) s a) ⌝ }
+fn some_triple<'a>(m: &'a Lent, triples: &'a [u16], size: Size, s: usize, a: usize) -> Goal
+    ensures { λ f. ⌜ f ≡ goalAs (someTriple (productIn (now (m .entry)) .final) (size .symbols) (size .states) (now (triples .entry)) s a) ⌝ }
 {
     let states = size.states as usize;
     let mut e: usize = 0;
     'states: while e < states {
-        if guilty_triple(finals, triples, size, s, a, e) {
+        if guilty_triple(m, triples, size, s, a, e) {
             return Goal::Triple(s, a, e);
         }
         e += 1;
@@ -92,18 +76,18 @@ fn some_triple<'a>(
 
 // The violating fact that is held; s and a are the start state and the start symbol.
 pub fn culprit<'a>(
-    finals: &'a [bool; 8],
+    m: &'a Lent,
     heads: &'a [u16],
     triples: &'a [u16],
     size: Size,
     s: usize,
     a: usize,
 ) -> Goal
-    ensures { λ f. ⌜ f ≡ goalAs (culpritIn (now (finals .entry)) (size .symbols) (size .states) (now (heads .entry)) (now (triples .entry)) s a) ⌝ }
+    ensures { λ f. ⌜ f ≡ goalAs (culpritIn (productIn (now (m .entry)) .final) (size .symbols) (size .states) (now (heads .entry)) (now (triples .entry)) s a) ⌝ }
 {
-    let f = some_head(finals, heads, size);
+    let f = some_head(m, heads, size);
     match f {
-        Goal::Nothing => some_triple(finals, triples, size, s, a),
+        Goal::Nothing => some_triple(m, triples, size, s, a),
         Goal::Head(q, g) => Goal::Head(q, g),
         Goal::Triple(q, g, e) => Goal::Triple(q, g, e),
     }
@@ -111,16 +95,16 @@ pub fn culprit<'a>(
 
 // No violating fact is held.
 pub fn is_clean<'a>(
-    finals: &'a [bool; 8],
+    m: &'a Lent,
     heads: &'a [u16],
     triples: &'a [u16],
     size: Size,
     s: usize,
     a: usize,
 ) -> bool
-    ensures { λ b. ⌜ b ≡ cleanIn (now (finals .entry)) (size .symbols) (size .states) (now (heads .entry)) (now (triples .entry)) s a ⌝ }
+    ensures { λ b. ⌜ b ≡ cleanIn (productIn (now (m .entry)) .final) (size .symbols) (size .states) (now (heads .entry)) (now (triples .entry)) s a ⌝ }
 {
-    let f = culprit(finals, heads, triples, size, s, a);
+    let f = culprit(m, heads, triples, size, s, a);
     match f {
         Goal::Nothing => true,
         Goal::Head(_, _) => false,

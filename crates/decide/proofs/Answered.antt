@@ -17,7 +17,7 @@ use Rattle.model.specs.declared.Model.{Model}
 use Rattle.model.specs.Model.{productOf}
 use Rattle.model.specs.Valid.{valid}
 use Rattle.decide.specs.declared.Decision.{Decision}
-use Rattle.decide.specs.Decided.{verdict, refused, meaning, within, headCount, tripleCount, decision, headsLeft, triplesLeft, Decided}
+use Rattle.decide.specs.Decided.{refused, meaning, within, headCount, tripleCount, decision, headsLeft, triplesLeft, Decided}
 use Rattle.decide.proofs.Laid.{ranks-laid}
 
 -- what an answer that is no refusal of 6 or 7 says

@@ -1,27 +1,27 @@
--- The rules put into the sets of what they need, the exits, the final states, and the symbols of the classes. Assumes nothing.
-use mathlib.Core.Bool.{Bool, true, false, cond, not, _&&_, _||_}
+-- The rules put into the sets of what they need, the exits, and the final states. Assumes nothing.
+use mathlib.Core.Bool.{Bool, true, false, cond, _&&_, _||_}
 use mathlib.Core.List.{List}
 use mathlib.Core.Logic.{_⊎_, inl, inr, ⊎-elim}
 use mathlib.Core.Path.{_≡_, refl, sym, ap, ap₂, _∙_, subst, subst⁻¹}
-use Prim.Native.Nat.{ℕ, zero, suc, _+_, _*_, _/_, _%_, _^_, _<_, _≤_}
-use native.Mathlib.Numerals.{add-one}
+use Prim.Native.Nat.{ℕ, zero, suc, _+_, _*_, _/_, _%_, _^_, _<_}
 use native.Mathlib.Omega.{arith}
 use native.Mathlib.Decide.{ℕ-discrete, decLt}
 use lib.Bits.{bitOr}
 use lib.Dec.{T, eqb, ltb, eqb→eq, eqb-refl}
-use lib.ListN.{length, length-set, getD, set, replicate}
-use lib.Seq.{getD-set-same, getD-set-other}
+use lib.ListN.{length}
 use borrow.Author.Tests.{eq-eqb, ne-eqb, lt-ltb, le-ltb}
 use Rattle.product.specs.Product.{Rule, exit, direct, call}
-use Rattle.product.proofs.Lists.{and-left, and-right, both, or-left, or-right, or-cases, same-truth}
+use Rattle.product.proofs.Lists.{and-right, both, or-left, or-right, or-cases}
 use Rattle.bits.specs.Bit.{bit}
 use Rattle.bits.proofs.Bit.{bit-or, bit-zero}
 use Rattle.bits.proofs.Set.{bit-pow, one-shifted}
+use Rattle.steps.specs.Steps.{symbolOf}
+use Rattle.decide.specs.declared.rows.Row.{Row}
 use Rattle.decide.specs.Sets.{member, chosen, With, Put}
-use Rattle.decide.specs.Gather.{kindAt, classAt, overAt, underAt, Empty}
-use Rattle.decide.specs.Frame.{ruleBy}
+use Rattle.decide.specs.Gather.{kindAt, classAt, overAt, underAt, RowAt, Empty}
+use Rattle.decide.specs.Frame.{ruleBy, rowRule}
 use Rattle.decide.specs.Turn.{UsesOf}
-use Rattle.decide.specs.Build.{SameSymbols, rowRule, UsesPut, UsesAll, ExitPut, Exits, RulePut, RulesSorted}
+use Rattle.decide.specs.Build.{UsesPut, UsesAll, ExitPut, Exits, RulePut, RulesSorted}
 use Rattle.decide.proofs.Members.{or-false}
 
 -- one set more has r
@@ -54,42 +54,73 @@ module _ {us us′ : List ℕ} {s r : ℕ} (p : Put us s r us′) where
 put-at : {us us′ : List ℕ} {s t r : ℕ} → Put us s r us′ → s ≡ t → r < 256 → T (member us′ t r)
 put-at {us} {us′} {s} {t} {r} p e h = subst (λ s. T (member us′ s r)) e (put-there p h)
 
-rule-exit : (rs : List ℕ) (r : ℕ) → kindAt rs r ≡ 0 → exit (classAt rs r % 32) ≡ rowRule rs r
+rule-exit : (rs : List ℕ) (r : ℕ) → kindAt rs r ≡ 0 → exit (symbolOf (classAt rs r)) ≡ rowRule rs r
 rule-exit rs r k = rw k
 
-rule-direct : (rs : List ℕ) (r : ℕ) → kindAt rs r ≡ 1 → direct (classAt rs r % 32) (overAt rs r) ≡ rowRule rs r
+rule-direct : (rs : List ℕ) (r : ℕ) → kindAt rs r ≡ 1 → direct (symbolOf (classAt rs r)) (overAt rs r) ≡ rowRule rs r
 rule-direct rs r k = rw k
 
-rule-call : (rs : List ℕ) (r : ℕ) → (kindAt rs r ≡ 0 → ⊥) → (kindAt rs r ≡ 1 → ⊥) → call (classAt rs r % 32) (overAt rs r) (underAt rs r) ≡ rowRule rs r
+rule-call : (rs : List ℕ) (r : ℕ) → (kindAt rs r ≡ 0 → ⊥) → (kindAt rs r ≡ 1 → ⊥) → call (symbolOf (classAt rs r)) (overAt rs r) (underAt rs r) ≡ rowRule rs r
 rule-call rs r h k = go (kindAt rs r) h k
   where
-    go : (n : ℕ) → (n ≡ 0 → ⊥) → (n ≡ 1 → ⊥) → call (classAt rs r % 32) (overAt rs r) (underAt rs r) ≡ ruleBy n (classAt rs r % 32) (overAt rs r) (underAt rs r)
+    go : (n : ℕ) → (n ≡ 0 → ⊥) → (n ≡ 1 → ⊥) → call (symbolOf (classAt rs r)) (overAt rs r) (underAt rs r) ≡ ruleBy n (symbolOf (classAt rs r)) (overAt rs r) (underAt rs r)
     go zero h k = absurd (h refl)
     go (suc zero) h k = absurd (k refl)
     go (suc (suc n)) h k = refl
 
-module _ (rs : List ℕ) (r : ℕ) (l : r < 256) {us : List ℕ} (long : length us ≡ 384) where
+-- the exits with rule r, if it is one
+exit-other : (rs : List ℕ) (r : ℕ) {w : List ℕ} → length w ≡ 4 → (kindAt rs r ≡ 0 → ⊥) → ExitPut rs r w w
+exit-other rs r {w} l h = record { long = l; is = λ x. or-false (chosen w x) ∙ ap (λ b. chosen w x || b) (sym (ap (λ b. eqb r x && b) (ne-eqb (kindAt rs r) 0 h) ∙ and-off (eqb r x))) }
+  where
+    and-off : (a : Bool) → a && false ≡ false
+    and-off true = refl
+    and-off false = refl
+
+exit-put : (rs : List ℕ) (r : ℕ) {w w′ : List ℕ} → kindAt rs r ≡ 0 → With w r w′ → ExitPut rs r w w′
+exit-put rs r {w} {w′} k m = record { long = m .long; is = λ x. m .is x ∙ ap (λ b. chosen w x || b) (and-on (eqb r x) ∙ ap (λ b. eqb r x && b) (sym (eq-eqb (kindAt rs r) 0 k))) }
+  where
+    and-on : (a : Bool) → a ≡ a && true
+    and-on true = refl
+    and-on false = refl
+
+-- rule r, by its row; w is the set of the exits
+module _ {rs : List ℕ} {r : ℕ} {row : Row} (i : RowAt rs r row) (l : r < 256) (us : List ℕ) where
   from-grew : {us′ : List ℕ} → Grew r us us′ → UsesOf us′ r (rowRule rs r) → UsesPut rs r us us′
   from-grew g u = record { long = g .long; there = u; kept = g .kept; only = g .only }
 
-  pub uses-exit : kindAt rs r ≡ 0 → UsesPut rs r us us
-  uses-exit k = from-grew (grew-none r us long) (subst (UsesOf us r) (rule-exit rs r k) tt)
+  pub put-exit : length us ≡ 384 → row .kind ≡ 0 → {w w′ : List ℕ} → With w r w′ → RulePut rs r us w us w′
+  put-exit long k m =
+      let z : kindAt rs r ≡ 0 = sym (i .kind-is) ∙ k in
+      record { uses = from-grew (grew-none r us long) (subst (UsesOf us r) (rule-exit rs r z) tt); exits = exit-put rs r z m }
 
-  module _ {g g1 : ℕ} {a b : List ℕ} (g-is : g ≡ classAt rs r % 32) (p : Put us (64 + g) r a) (g1-is : g1 ≡ overAt rs r) (q : Put a g1 r b) where
-    pub uses-direct : kindAt rs r ≡ 1 → UsesPut rs r us b
-    uses-direct k =
-        from-grew (grew-then (put-grew p) (put-grew q))
-        (subst (UsesOf b r) (rule-direct rs r k) (put-at q g1-is l, put-grew q .kept (64 + classAt rs r % 32) r l (put-at p (ap (λ n. 64 + n) g-is) l)))
+  module _ (w : List ℕ) (few : length w ≡ 4) (h : row .kind ≡ 0 → ⊥) {g : ℕ} {a b : List ℕ} (g-is : g ≡ symbolOf (row .class)) (p : Put us (64 + g) r a) (q : Put a (row .over) r b) where
+    no-exit : ExitPut rs r w w
+    no-exit = exit-other rs r few (λ z. h (i .kind-is ∙ z))
 
-    pub uses-call : (kindAt rs r ≡ 0 → ⊥) → (kindAt rs r ≡ 1 → ⊥) → {g2 : ℕ} {c d : List ℕ} → g2 ≡ underAt rs r → Put b g2 r c → Put c (32 + g1) r d → UsesPut rs r us d
-    uses-call h k {g2} {c} {d} g2-is u v =
-        from-grew (grew-then (grew-then (put-grew p) (put-grew q)) (grew-then (put-grew u) (put-grew v)))
-        (subst (UsesOf d r) (rule-call rs r h k) (
-          put-grew v .kept (overAt rs r) r l (put-grew u .kept (overAt rs r) r l (put-at q g1-is l)),
-          put-grew v .kept (underAt rs r) r l (put-at u g2-is l),
-          put-at v (ap (λ n. 32 + n) g1-is) l,
-          put-grew v .kept (64 + classAt rs r % 32) r l (put-grew u .kept (64 + classAt rs r % 32) r l (put-grew q .kept (64 + classAt rs r % 32) r l (put-at p (ap (λ n. 64 + n) g-is) l))),
-        ))
+    head-at : T (member a (64 + symbolOf (classAt rs r)) r)
+    head-at = put-at p (ap (λ n. 64 + n) (g-is ∙ ap symbolOf (i .class-is))) l
+
+    pub put-direct : row .kind ≡ 1 → RulePut rs r us w b w
+    put-direct k = record {
+      uses = from-grew (grew-then (put-grew p) (put-grew q))
+          (subst (UsesOf b r) (rule-direct rs r (sym (i .kind-is) ∙ k)) (put-at q (i .over-is) l, put-grew q .kept (64 + symbolOf (classAt rs r)) r l head-at));
+      exits = no-exit;
+    }
+
+    pub put-call : (row .kind ≡ 1 → ⊥) → {c d : List ℕ} → Put b (row .under) r c → Put c (32 + row .over) r d → RulePut rs r us w d w
+    put-call k {c} {d} u v = record {
+      uses = from-grew (grew-then (grew-then (put-grew p) (put-grew q)) (grew-then (put-grew u) (put-grew v)))
+          (subst (UsesOf d r) (rule-call rs r (λ z. h (i .kind-is ∙ z)) (λ z. k (i .kind-is ∙ z))) (
+            put-grew v .kept (overAt rs r) r l (put-grew u .kept (overAt rs r) r l (put-at q (i .over-is) l)),
+            put-grew v .kept (underAt rs r) r l (put-at u (i .under-is) l),
+            put-at v (ap (λ n. 32 + n) (i .over-is)) l,
+            later (put-grew v) (later (put-grew u) (later (put-grew q) head-at)),
+          ));
+      exits = no-exit;
+    }
+      where
+        later : {x y : List ℕ} → Grew r x y → T (member x (64 + symbolOf (classAt rs r)) r) → T (member y (64 + symbolOf (classAt rs r)) r)
+        later m = m .kept (64 + symbolOf (classAt rs r)) r l
 
 -- the first rules
 member-none : {us : List ℕ} → Empty 384 us → (s r : ℕ) → member us s r ≡ false
@@ -121,20 +152,6 @@ module _ (rs : List ℕ) where
       at r h (no e) = kept-by r (omega arith) p (rowRule rs r) (a .there r (omega arith))
 
   -- the exits
-  pub exit-other : (r : ℕ) {w : List ℕ} → length w ≡ 4 → (kindAt rs r ≡ 0 → ⊥) → ExitPut rs r w w
-  exit-other r {w} l h = record { long = l; is = λ x. or-false (chosen w x) ∙ ap (λ b. chosen w x || b) (sym (ap (λ b. eqb r x && b) (ne-eqb (kindAt rs r) 0 h) ∙ and-off (eqb r x))) }
-    where
-      and-off : (a : Bool) → a && false ≡ false
-      and-off true = refl
-      and-off false = refl
-
-  pub exit-put : (r : ℕ) {w w′ : List ℕ} → kindAt rs r ≡ 0 → With w r w′ → ExitPut rs r w w′
-  exit-put r {w} {w′} k m = record { long = m .long; is = λ x. m .is x ∙ ap (λ b. chosen w x || b) (and-on (eqb r x) ∙ ap (λ b. eqb r x && b) (sym (eq-eqb (kindAt rs r) 0 k))) }
-    where
-      and-on : (a : Bool) → a ≡ a && true
-      and-on true = refl
-      and-on false = refl
-
   exits-none : {w : List ℕ} → Empty 4 w → Exits rs 0 w
   exits-none e = record { long = e .long; is = λ x. chosen-none e x ∙ sym (ap (λ b. b && eqb (kindAt rs x) 0) (le-ltb x 0 (omega arith))) }
 
@@ -162,17 +179,17 @@ module _ (rs : List ℕ) where
   sorted-all n k {us} {w} e = subst (λ n. RulesSorted rs n us w) e
 
 -- the final states
-module _ (fs : List Bool) where
+module _ (final : ℕ → Bool) where
   abbrev pub FinalsTo : (n r : ℕ) → Type 0
-  FinalsTo n r = (x : ℕ) → bit r x ≡ ltb x n && getD fs x false
+  FinalsTo n r = (x : ℕ) → bit r x ≡ ltb x n && final x
 
   pub finals-none : FinalsTo 0 0
-  finals-none x = bit-zero x ∙ sym (ap (λ b. b && getD fs x false) (le-ltb x 0 (omega arith)))
+  finals-none x = bit-zero x ∙ sym (ap (λ b. b && final x) (le-ltb x 0 (omega arith)))
 
-  pub finals-more : (n r m : ℕ) → FinalsTo n r → m ≡ cond (getD fs n false) (2 ^ n) 0 → FinalsTo (n + 1) (bitOr r m)
-  finals-more n r m a e x = bit-or r m x ∙ ap₂ _||_ (a x) (ap (λ m. bit m x) e ∙ one (getD fs n false) refl) ∙ at (ℕ-discrete n x)
+  pub finals-more : (n r m : ℕ) → FinalsTo n r → m ≡ cond (final n) (2 ^ n) 0 → FinalsTo (n + 1) (bitOr r m)
+  finals-more n r m a e x = bit-or r m x ∙ ap₂ _||_ (a x) (ap (λ m. bit m x) e ∙ one (final n) refl) ∙ at (ℕ-discrete n x)
     where
-      one : (b : Bool) → getD fs n false ≡ b → bit (cond b (2 ^ n) 0) x ≡ eqb n x && b
+      one : (b : Bool) → final n ≡ b → bit (cond b (2 ^ n) 0) x ≡ eqb n x && b
       one true y = bit-pow n x ∙ and-on (eqb n x)
         where
           and-on : (a : Bool) → a ≡ a && true
@@ -184,26 +201,22 @@ module _ (fs : List Bool) where
           and-off true = refl
           and-off false = refl
 
-      at : Dec (n ≡ x) → (ltb x n && getD fs x false) || (eqb n x && getD fs n false) ≡ ltb x (n + 1) && getD fs x false
+      at : Dec (n ≡ x) → (ltb x n && final x) || (eqb n x && final n) ≡ ltb x (n + 1) && final x
       at (yes e) =
-          subst (λ x. (ltb x n && getD fs x false) || (eqb n x && getD fs n false) ≡ ltb x (n + 1) && getD fs x false) e
+          subst (λ x. (ltb x n && final x) || (eqb n x && final n) ≡ ltb x (n + 1) && final x) e
           (rw (le-ltb n n (omega arith), eq-eqb n n refl, lt-ltb n (n + 1) (omega arith)))
       at (no e) = go (decLt x n)
         where
-          go : Dec (x < n) → (ltb x n && getD fs x false) || (eqb n x && getD fs n false) ≡ ltb x (n + 1) && getD fs x false
-          go (yes h) = rw (ne-eqb n x e, lt-ltb x n h, lt-ltb x (n + 1) (omega arith)) (sym (or-false (getD fs x false)))
+          go : Dec (x < n) → (ltb x n && final x) || (eqb n x && final n) ≡ ltb x (n + 1) && final x
+          go (yes h) = rw (ne-eqb n x e, lt-ltb x n h, lt-ltb x (n + 1) (omega arith)) (sym (or-false (final x)))
           go (no h) = rw (ne-eqb n x e, le-ltb x n (omega arith), le-ltb x (n + 1) (omega arith))
 
   pub finals-all : (n k r : ℕ) → n ≡ k → FinalsTo n r → FinalsTo k r
   finals-all n k r e = subst (λ n. FinalsTo n r) e
 
--- the symbols
-pub symbols-more : (n : ℕ) (sy : List ℕ) → n < length sy → SameSymbols n sy → SameSymbols (n + 1) (set sy n n)
-symbols-more n sy l a c h = go (ℕ-discrete c n)
-  where
-    go : Dec (c ≡ n) → getD (set sy n n) c 0 ≡ c
-    go (yes e) = ap (λ c. getD (set sy n n) c 0) e ∙ getD-set-same sy n n 0 l ∙ sym e
-    go (no e) = getD-set-other sy n c n 0 e ∙ a c (omega arith)
+module _ (final : ℕ → Bool) (q : ℕ) where
+  pub final-bit : q < 8 → {b : Bool} → b ≡ final q → b ≡ true → (1 * 2 ^ q) % 2 ^ 64 ≡ cond (final q) (2 ^ q) 0
+  final-bit l e t = rw (sym e ∙ t) (one-shifted 64 q (omega arith))
 
-pub final-bit : (fs : List Bool) (q : ℕ) → q < 8 → getD fs q false ≡ true → (1 * 2 ^ q) % 2 ^ 64 ≡ cond (getD fs q false) (2 ^ q) 0
-final-bit fs q l e = rw e (one-shifted 64 q (omega arith))
+  pub not-final : {b : Bool} → b ≡ final q → b ≡ false → 0 ≡ cond (final q) (2 ^ q) 0
+  not-final e t = rw (sym e ∙ t)

@@ -1,24 +1,23 @@
 -- The sets of the next round name enough rules. Assumes nothing.
 use mathlib.Core.Bool.{Bool, true, false, not, _&&_, _||_}
-use mathlib.Core.List.{List, [], _∷_}
+use mathlib.Core.List.{List}
 use mathlib.Core.Logic.{_⊎_, inl, inr, ⊎-elim}
 use mathlib.Core.Path.{_≡_, refl, sym, ap, _∙_, subst, subst⁻¹}
-use Prim.Native.Nat.{ℕ, zero, suc, _+_, _-_, _*_, _/_, _%_, _<_, _≤_, _^_}
+use Prim.Native.Nat.{ℕ, suc, _+_, _-_, _/_, _%_, _<_, _≤_, _^_}
 use native.Mathlib.Nat.{zero-lt-suc, div-lt-iff-lt-mul, zero-add}
 use native.Mathlib.Omega.{arith}
 use native.Mathlib.Decide.{decLt}
 use lib.Bits.{bitAnd}
 use lib.Dec.{T, eqb}
-use lib.ListN.{length, getD, replicate, List·getD-eq-default}
+use lib.ListN.{length, replicate, List·getD-eq-default}
 use Rattle.product.specs.Product.{Rule, exit, direct, call, Product, InRange}
 use Rattle.product.specs.Facts.{same, first}
 use Rattle.product.proofs.Lists.{and-left, and-right, both, or-left, or-right, or-cases}
 use Rattle.bits.specs.Bit.{bit}
-use Rattle.bits.specs.Matrix.{some}
 use Rattle.bits.proofs.Bit.{bit-zero}
 use Rattle.bits.proofs.Lowest.{lowest, lowest-set, cleared, cleared-less}
 use Rattle.bits.proofs.Some.{some-of, of-some, some-lowest, some-none}
-use Rattle.relations.specs.Quiet.{QuietT, QuietH, Watch, Told}
+use Rattle.relations.specs.Quiet.{QuietT, QuietH, Told}
 use Rattle.relations.proofs.Quiet.{enough-later}
 use Rattle.decide.specs.Sets.{member, chosen, Joined}
 use Rattle.decide.specs.Standing.{Sets}

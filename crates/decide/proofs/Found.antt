@@ -1,9 +1,9 @@
 -- A violating fact is held exactly if the matrices show one, of a symbol that changed. Assumes nothing.
 use mathlib.Core.Bool.{Bool, true, false, not, _&&_, _||_}
 use mathlib.Core.List.{List}
-use mathlib.Core.Logic.{_⊎_, inl, inr, ⊎-elim}
-use mathlib.Core.Path.{_≡_, refl, sym, ap, _∙_, subst, subst⁻¹}
-use Prim.Native.Nat.{ℕ, zero, suc, _+_, _-_, _*_, _/_, _^_, _<_, _≤_}
+use mathlib.Core.Logic.{_⊎_, ⊎-elim}
+use mathlib.Core.Path.{_≡_, refl, sym, ap, ap₂, _∙_, subst, subst⁻¹}
+use Prim.Native.Nat.{ℕ, _+_, _-_, _*_, _/_, _^_, _<_}
 use native.Mathlib.Nat.{zero-add}
 use native.Mathlib.Omega.{arith}
 use lib.Bits.{bitAnd, bitOr}
@@ -20,15 +20,15 @@ use Rattle.product.proofs.Range.{held-within}
 use Rattle.product.proofs.Verdict.{violated-by}
 use Rattle.table.specs.declared.Size.{Size}
 use Rattle.bits.specs.Bit.{bit}
-use Rattle.bits.specs.Matrix.{mat, mats, some}
 use Rattle.bits.proofs.Bit.{bit-and, bit-or, bit-zero, bit-shr}
 use Rattle.bits.proofs.Lowest.{lowest, lowest-set, cleared, cleared-less}
 use Rattle.bits.proofs.Some.{of-some, some-of, some-lowest, some-none, has-bit}
-use Rattle.decide.specs.Standing.{Begins, Standing}
-use Rattle.decide.specs.Driven.{finalHeads, violations, Finals}
+use Rattle.decide.specs.declared.Goal.{Goal}
+use Rattle.decide.specs.Standing.{Begins}
+use Rattle.decide.specs.Driven.{finalHeads, violations, Goals}
 use Rattle.decide.proofs.Members.{or-false}
 use Rattle.decide.proofs.Gathered.{or-assoc}
-use Rattle.decide.proofs.Taking.{mat-in, mat-lt}
+use Rattle.decide.proofs.Taking.{mat-in}
 use Rattle.decide.proofs.RoundTriples.{states-in, eight}
 
 -- the loop over the symbols that changed: what is left to look at, with what was seen, makes what was asked
@@ -68,14 +68,20 @@ module _ {fins changed : ℕ} {hd e : List ℕ} {q g : ℕ} where
       ∙ ap (λ d. bit r x || finalHeads fins d hd x) (sym z) ∙ l .is x
 
 -- and what they mean, where no other symbol has a head in a final state
-module _ (p : Product) (z : Size) (n : ℕ) (wt wh rs sy tg by e hd hs ts : List ℕ) (b : Begins p z n wt wh rs sy tg by e hd hs ts) (fins : ℕ) (f : Finals p fins)
+module _ {p : Product} {z : Size} {n : ℕ} {wt wh rs tg by e hd hs ts : List ℕ} (b : Begins p z n wt wh rs tg by e hd hs ts) {goal : Goal} (f : Goals p goal)
     (changed : ℕ) (low : (s : ℕ) → T (bit changed s) → s < 32)
-    (r : ℕ) (r-is : (x : ℕ) → bit r x ≡ violations fins changed hd e (p .start-state) (p .start-symbol) x) where
+    (r : ℕ) (r-is : (x : ℕ) → bit r x ≡ violations (goal .finals) changed hd e (goal .state) (goal .symbol) x) where
+  abbrev fins : ℕ
+  fins = goal .finals
+
+  r-at : (x : ℕ) → bit r x ≡ violations fins changed hd e (p .start-state) (p .start-symbol) x
+  r-at x = r-is x ∙ ap₂ (λ q g. violations fins changed hd e q g x) (f .state-is) (f .symbol-is)
+
   R : InRange p
   R = b .arrays .in-range
 
   in-eight : (x : ℕ) → x ∈ p .states → x < 8
-  in-eight x i = eight p R (z .states) rs sy tg (b .arrays .frame) (states-in p R (z .states) rs sy tg (b .arrays .frame) x i)
+  in-eight x i = eight p R (z .states) rs tg (b .arrays .frame) (states-in p R (z .states) rs tg (b .arrays .frame) x i)
 
   -- a bit of a row is a head, and one of the start symbol's matrix is a triple
   head-is : (g x : ℕ) → x < 8 → bit (getD hd g 0) x ≡ held p n (head x g)
@@ -106,10 +112,10 @@ module _ (p : Product) (z : Size) (n : ℕ) (wt wh rs sy tg by e hd hs ts : List
       let c : T (bit (getD hd g 0) x && bit fins x) = and-right (bit changed g) (bit (getD hd g 0) x && bit fins x) v in
       let w : T (bit fins x) = and-right (bit (getD hd g 0) x) (bit fins x) c in
       violated-by p R n (head x g) (f .is x w) (subst T (head-is g x (f .low x w)) (and-left (bit (getD hd g 0) x) (bit fins x) c)))
-      (or-cases (erased x) (finalHeads fins changed hd x) (subst T (r-is x) t))
+      (or-cases (erased x) (finalHeads fins changed hd x) (subst T (r-at x) t))
 
   seen : (x : ℕ) → T (violations fins changed hd e (p .start-state) (p .start-symbol) x) → r ≡ 0 → ⊥
-  seen x t y = subst T (sym (r-is x) ∙ ap (λ d. bit d x) y ∙ bit-zero x) t
+  seen x t y = subst T (sym (r-at x) ∙ ap (λ d. bit d x) y ∙ bit-zero x) t
 
   pub not-found : ((q s : ℕ) → bit changed s ≡ false → T (held p n (head q s)) → T (not (p .final q))) → r ≡ 0 → T (not (violated p n))
   unfolding violated violations finalHeads

@@ -1,23 +1,21 @@
 -- The visit of a rule, and of the rules of a set. Assumes nothing.
-use mathlib.Core.Bool.{Bool, true, false, cond, not, _&&_, _||_}
+use mathlib.Core.Bool.{Bool, true, false, _&&_, _||_}
 use mathlib.Core.List.{List}
 use mathlib.Core.Path.{_≡_, refl, sym, ap, ap₂, _∙_, subst, subst⁻¹}
-use Prim.Native.Nat.{ℕ, zero, suc, _+_, _*_, _/_, _%_, _<_, _≤_}
+use Prim.Native.Nat.{ℕ, _+_, _*_, _<_}
 use native.Mathlib.Omega.{arith}
 use native.Mathlib.Decide.{ℕ-discrete}
 use lib.Dec.{T, eqb, ltb}
 use borrow.Author.Tests.{eq-eqb, ne-eqb}
-use lib.ListN.{getD, set, length, length-set, replicate}
+use lib.ListN.{getD, set, length, length-set}
 use lib.Seq.{getD-set-same, getD-set-other}
 use lib.Bits.{bitOr}
-use Rattle.product.proofs.Lists.{or-right, same-truth, T-true}
-use Rattle.bits.specs.Bit.{bit}
-use Rattle.bits.specs.Matrix.{entry, mat, mats, some, multiplied}
+use Rattle.product.proofs.Lists.{or-right}
+use Rattle.bits.specs.Matrix.{entry, mat, mats, multiplied}
 use Rattle.bits.proofs.Bit.{bit-or, bit-zero}
-use Rattle.bits.proofs.Matrix.{none-left, none-right}
-use Rattle.decide.specs.Sets.{chosen, among, With, Picked}
-use Rattle.decide.specs.Stamp.{Entries}
-use Rattle.decide.specs.Gather.{restOf, restAt, kindAt, classAt, overAt, underAt, added, addedBy, Visits, Gains}
+use Rattle.decide.specs.declared.rows.Row.{Row}
+use Rattle.decide.specs.Sets.{chosen, With, Picked}
+use Rattle.decide.specs.Gather.{restOf, restAt, kindAt, RowAt, added, addedBy, Visits, Gains}
 use Rattle.decide.proofs.Members.{or-false, among-picked, among-none}
 
 -- what is run after a step
@@ -32,12 +30,6 @@ rest-direct kind g1 g2 e h k = rw (ne-eqb kind 0 h, eq-eqb kind 1 k)
 pub rest-call : (kind g1 g2 : ℕ) (e : List ℕ) → (kind ≡ 0 → ⊥) → (kind ≡ 1 → ⊥) → multiplied (getD e g1 0) (getD e g2 0) ≡ restOf kind g1 g2 e
 unfolding restOf
 rest-call kind g1 g2 e h k = rw (ne-eqb kind 0 h, ne-eqb kind 1 k)
-
-pub rest-none : (kind g1 g2 : ℕ) (e : List ℕ) → (kind ≡ 0 → ⊥) → (kind ≡ 1 → ⊥) → getD e g1 0 ≡ 0 → 0 ≡ restOf kind g1 g2 e
-rest-none kind g1 g2 e h k z = none-left (getD e g1 0) (getD e g2 0) z ∙ rest-call kind g1 g2 e h k
-
-pub rest-no-end : (kind g1 g2 : ℕ) (e : List ℕ) → (kind ≡ 0 → ⊥) → (kind ≡ 1 → ⊥) → getD e g2 0 ≡ 0 → 0 ≡ restOf kind g1 g2 e
-rest-no-end kind g1 g2 e h k z = none-right (getD e g1 0) (getD e g2 0) z ∙ rest-call kind g1 g2 e h k
 
 -- as entries
 or-and : (a b x y : Bool) → a && b && (x || y) ≡ (a && b && x) || (a && b && y)
@@ -64,15 +56,18 @@ pub or-assoc : (a b c : Bool) → a || (b || c) ≡ (a || b) || c
 or-assoc true b c = refl
 or-assoc false b c = refl
 
--- one rule
-module _ (rs e by t : List ℕ) (i : ℕ) (t-long : length t ≡ 4) (by-long : length by ≡ 256) {m a b : ℕ} (m-is : m ≡ restOf (kindAt rs i) a b e) (a-is : a ≡ overAt rs i) (b-is : b ≡ underAt rs i)
-    {c : ℕ} (c-is : c ≡ classAt rs i) (c-in : c < 256) where
+-- one rule, by its row
+module _ {rs : List ℕ} {i : ℕ} {row : Row} (at-row : RowAt rs i row) (e by t : List ℕ) (t-long : length t ≡ 4) (by-long : length by ≡ 256)
+    {m : ℕ} (m-is : m ≡ restOf (row .kind) (row .over) (row .under) e) where
+  abbrev c : ℕ
+  c = row .class
+
   rest-is : m ≡ restAt rs e i
   unfolding restAt
-  rest-is = m-is ∙ ap₂ (λ x y. restOf (kindAt rs i) x y e) a-is b-is
+  rest-is = m-is ∙ ap (λ k. restOf k (row .over) (row .under) e) (at-row .kind-is) ∙ ap₂ (λ x y. restOf (kindAt rs i) x y e) (at-row .over-is) (at-row .under-is)
 
   same-entry : (g q x : ℕ) → eqb c g && mat m q x ≡ added rs e i g q x
-  same-entry g q x = ap₂ (λ c m. eqb c g && mat m q x) c-is rest-is
+  same-entry g q x = ap₂ (λ c m. eqb c g && mat m q x) (at-row .class-is) rest-is
 
   pub visit-none : bitOr (getD by c 0) m ≡ getD by c 0 → Visits (added rs e i) t by t by
   visit-none z = record { few = t-long; long = by-long; entries = λ g q x. at g q x (ℕ-discrete c g) ∙ ap (λ b. mats by g q x || b) (same-entry g q x); same = λ g x. (x, refl) }
@@ -85,7 +80,7 @@ module _ (rs e by t : List ℕ) (i : ℕ) (t-long : length t ≡ 4) (by-long : l
 
   module _ {t′ : List ℕ} (marked : With t c t′) where
     in-by : c < length by
-    in-by = omega (arith, by-long)
+    in-by = omega (arith, by-long, at-row .class-in)
 
     entry-at : (g q x : ℕ) → Dec (c ≡ g) → mats (set by c (bitOr (getD by c 0) m)) g q x ≡ mats by g q x || (eqb c g && mat m q x)
     entry-at g q x (yes y) =

@@ -4,12 +4,12 @@ use mathlib.Core.List.{List, [], _∷_}
 use mathlib.Core.Logic.{_⊎_, inl, inr}
 use mathlib.Core.Path.{_≡_, refl, sym, ap, ap₂, _∙_, subst, subst⁻¹}
 use Prim.Native.Nat.{ℕ, zero, suc, _+_, _-_, _*_, _/_, _%_, _^_, _<_, _≤_}
-use native.Mathlib.Nat.{div-add-mod', mod-lt, zero-lt-suc, div-lt-iff-lt-mul, zero-add, add-zero}
+use native.Mathlib.Nat.{div-add-mod', mod-lt, zero-lt-suc, div-lt-iff-lt-mul}
 use native.Mathlib.Omega.{arith}
 use native.Mathlib.Decide.{ℕ-discrete, decLt}
 use lib.Arith.{digits-div, digits-mod}
 use lib.Bits.{bitAnd, bitOr}
-use lib.Dec.{T, eqb, eqb→eq, eqb-refl}
+use lib.Dec.{T, eqb, eqb→eq}
 use lib.ListN.{length, length-set, getD, set}
 use lib.Seq.{getD-set-same, getD-set-other}
 use borrow.Author.Tests.{eq-eqb, ne-eqb}
@@ -22,7 +22,7 @@ use Rattle.bits.proofs.Bit.{bit-or, bit-zero}
 use Rattle.bits.proofs.Set.{bit-set}
 use Rattle.bits.proofs.Lowest.{lowest, lowest-set, cleared, cleared-less}
 use Rattle.bits.proofs.Some.{some-of, of-some, low64}
-use Rattle.decide.specs.Sets.{member, chosen, among, With, weight, Picked, Joined, Put}
+use Rattle.decide.specs.Sets.{member, chosen, among, With, weight, PickedIn, Picked, Joined, Put}
 
 sixty-four : 0 < 64
 sixty-four = zero-lt-suc 63
@@ -90,9 +90,9 @@ module _ (w : List ℕ) (k d : ℕ) (long : length w ≡ 4) (k-in : k < 4) (pos 
   place-is : r % 64 ≡ lowest d
   place-is = digits-mod k low
 
-  pub picked-in : Picked w (k * 64 + lowest d) (set w k (bitAnd d (d - 1)))
+  picked : Picked w (k * 64 + lowest d) (set w k (bitAnd d (d - 1)))
   unfolding chosen
-  picked-in = record {
+  picked = record {
     long = length-set w k (bitAnd d (d - 1)) ∙ long;
     there = λ _. is-there;
     less = λ _. lighter k k-in d-is;
@@ -128,24 +128,23 @@ module _ (w : List ℕ) (k d : ℕ) (long : length w ≡ 4) (k-in : k < 4) (pos 
           other-word w k (bitAnd d (d - 1)) (omega (arith, long)) x y
           ∙ and-true (chosen w x) ∙ ap (λ b. chosen w x && not b) (sym (apart x r (λ e. y (sym word-is ∙ sym e))))
 
+  pub picked-in : {j : ℕ} → j ≡ lowest d → PickedIn w k (k * 64 + j) (set w k (bitAnd d (d - 1)))
+  picked-in e = rw e (record { some = λ _. picked; none = λ h. absurd (h (omega (arith, low))) })
+
+pub picked-empty : (w : List ℕ) {k : ℕ} → getD w k 0 ≡ 0 → PickedIn w k 256 w
+picked-empty w z = record { some = λ h. absurd (omega arith); none = λ _. (refl, z) }
+
 -- no word is left
-pub picked-none : (w : List ℕ) → length w ≡ 4 → getD w 0 0 ≡ 0 → getD w 1 0 ≡ 0 → getD w 2 0 ≡ 0 → getD w 3 0 ≡ 0 → Picked w 256 w
+picked-none : (w : List ℕ) (r : ℕ) → (r < 256 → ⊥) → length w ≡ 4 → ((k : ℕ) → k < 4 → getD w k 0 ≡ 0) → Picked w r w
 unfolding chosen
-picked-none w long a b c d = record {
+picked-none w r past-end long word = record {
   long = long;
-  there = λ h. absurd (omega arith);
-  less = λ h. absurd (omega arith);
-  rest = λ h. absurd (omega arith);
+  there = λ h. absurd (past-end h);
+  less = λ h. absurd (past-end h);
+  rest = λ h. absurd (past-end h);
   none = λ _ x. at x (decLt (x / 64) 4);
 }
   where
-    word : (k : ℕ) → k < 4 → getD w k 0 ≡ 0
-    word zero l = a
-    word (suc zero) l = b
-    word (suc (suc zero)) l = c
-    word (suc (suc (suc zero))) l = d
-    word (suc (suc (suc (suc k)))) l = absurd (omega arith)
-
     at : (x : ℕ) → Dec (x / 64 < 4) → chosen w x ≡ false
     at x (yes l) = ap (λ n. bit n (x % 64)) (word (x / 64) l) ∙ bit-zero (x % 64)
     at x (no l) = ap (λ n. bit n (x % 64)) (past w (x / 64) (omega (arith, long))) ∙ bit-zero (x % 64)
@@ -155,20 +154,71 @@ picked-none w long a b c d = record {
         past (a ∷ w) zero h = absurd (omega arith)
         past (a ∷ w) (suc i) h = past w i (omega arith)
 
--- a set joined with another, word by word
-pub joined-is : (w l : List ℕ) (s : ℕ) → Joined w l s
-    (bitOr (getD w 0 0) (getD l (s * 4) 0) ∷ bitOr (getD w 1 0) (getD l (s * 4 + 1) 0) ∷ bitOr (getD w 2 0) (getD l (s * 4 + 2) 0) ∷ bitOr (getD w 3 0) (getD l (s * 4 + 3) 0) ∷ [])
-unfolding chosen member
-joined-is w l s = record { long = refl; is = λ x h. at x (x / 64) refl (word-of x h) }
-  where
-    at : (x k : ℕ) → x / 64 ≡ k → k < 4
-        → chosen (bitOr (getD w 0 0) (getD l (s * 4) 0) ∷ bitOr (getD w 1 0) (getD l (s * 4 + 1) 0) ∷ bitOr (getD w 2 0) (getD l (s * 4 + 2) 0) ∷ bitOr (getD w 3 0) (getD l (s * 4 + 3) 0) ∷ []) x
-        ≡ chosen w x || member l s x
-    at x zero e h = rw (e, add-zero (s * 4)) (bit-or (getD w 0 0) (getD l (s * 4) 0) (x % 64))
-    at x (suc zero) e h = rw e (bit-or (getD w 1 0) (getD l (s * 4 + 1) 0) (x % 64))
-    at x (suc (suc zero)) e h = rw e (bit-or (getD w 2 0) (getD l (s * 4 + 2) 0) (x % 64))
-    at x (suc (suc (suc zero))) e h = rw e (bit-or (getD w 3 0) (getD l (s * 4 + 3) 0) (x % 64))
-    at x (suc (suc (suc (suc k)))) e h = absurd (omega arith)
+-- word after word: the set is as it was, and the first k words are empty
+pub record Passed (w₀ : List ℕ) (k : ℕ) (w : List ℕ) : Type 0 where
+  pub same : w ≡ w₀
+  pub empty : (j : ℕ) → j < k → getD w₀ j 0 ≡ 0
+
+module _ {w₀ : List ℕ} where
+  pub passed-first : Passed w₀ 0 w₀
+  passed-first = record { same = refl; empty = λ j h. absurd (omega arith) }
+
+  module _ {k : ℕ} {w : List ℕ} (p : Passed w₀ k w) where
+    pub passed-long : length w₀ ≡ 4 → length w ≡ 4
+    passed-long n = ap length (p .same) ∙ n
+
+    module _ {r : ℕ} {w′ : List ℕ} (i : PickedIn w k r w′) where
+      pub passed-next : 256 ≤ r → Passed w₀ (suc k) w′
+      passed-next l = let (e, z) = i .none (λ h. omega arith) in record { same = e ∙ p .same; empty = λ j h. at j h (ℕ-discrete j k) z }
+        where
+          at : (j : ℕ) → j < suc k → Dec (j ≡ k) → getD w k 0 ≡ 0 → getD w₀ j 0 ≡ 0
+          at j h (yes e) z = ap (λ j. getD w₀ j 0) e ∙ ap (λ w. getD w k 0) (sym (p .same)) ∙ z
+          at j h (no e) z = p .empty j (omega arith)
+
+      pub passed-pick : r < 256 → Picked w₀ r w′
+      passed-pick h = subst (λ w. Picked w r w′) (p .same) (i .some h)
+
+  -- the last word
+  pub passed-last : {w w′ : List ℕ} {r : ℕ} → length w₀ ≡ 4 → Passed w₀ 3 w → PickedIn w 3 r w′ → Picked w₀ r w′
+  passed-last {w} {w′} {r} n p i = go (decLt r 256)
+    where
+      go : Dec (r < 256) → Picked w₀ r w′
+      go (yes h) = passed-pick p i h
+      go (no h) = let q = passed-next p i (omega arith) in subst⁻¹ (Picked w₀ r) (q .same) (picked-none w₀ r h n (λ j l. q .empty j (omega arith)))
+
+-- a set joined with set number s, word by word: the first k are done
+pub record JoinedTo (w l : List ℕ) (s k : ℕ) (w′ : List ℕ) : Type 0 where
+  pub few : k ≤ 4
+  pub long : length w′ ≡ 4
+  pub done : (j : ℕ) → j < k → getD w′ j 0 ≡ bitOr (getD w j 0) (getD l (s * 4 + j) 0)
+  pub same : (j : ℕ) → k ≤ j → getD w′ j 0 ≡ getD w j 0
+
+module _ {w l : List ℕ} {s : ℕ} where
+  pub joined-none : length w ≡ 4 → JoinedTo w l s 0 w
+  joined-none n = record { few = omega arith; long = n; done = λ j h. absurd (omega arith); same = λ j h. refl }
+
+  pub joined-more : {k : ℕ} {w′ : List ℕ} → k < 4 → JoinedTo w l s k w′ → JoinedTo w l s (k + 1) (set w′ k (bitOr (getD w′ k 0) (getD l (s * 4 + k) 0)))
+  joined-more {k} {w′} h a = record {
+    few = omega arith;
+    long = length-set w′ k (bitOr (getD w′ k 0) (getD l (s * 4 + k) 0)) ∙ a .long;
+    done = λ j i. at j i (ℕ-discrete j k);
+    same = λ j i. getD-set-other w′ k j (bitOr (getD w′ k 0) (getD l (s * 4 + k) 0)) 0 (λ e. omega arith) ∙ a .same j (omega arith);
+  }
+    where
+      at : (j : ℕ) → j < k + 1 → Dec (j ≡ k) → getD (set w′ k (bitOr (getD w′ k 0) (getD l (s * 4 + k) 0))) j 0 ≡ bitOr (getD w j 0) (getD l (s * 4 + j) 0)
+      at j i (yes e) =
+          subst⁻¹ (λ j. getD (set w′ k (bitOr (getD w′ k 0) (getD l (s * 4 + k) 0))) j 0 ≡ bitOr (getD w j 0) (getD l (s * 4 + j) 0)) e
+          (getD-set-same w′ k (bitOr (getD w′ k 0) (getD l (s * 4 + k) 0)) 0 (omega (arith, a .long)) ∙ ap (λ n. bitOr n (getD l (s * 4 + k) 0)) (a .same k (omega arith)))
+      at j i (no e) = getD-set-other w′ k j (bitOr (getD w′ k 0) (getD l (s * 4 + k) 0)) 0 e ∙ a .done j (omega arith)
+
+  pub joined-all : {k : ℕ} {w′ : List ℕ} → 4 ≤ k → JoinedTo w l s k w′ → Joined w l s w′
+  unfolding chosen member
+  joined-all {k} {w′} h a = record {
+    long = a .long;
+    is = λ x i.
+        ap (λ n. bit n (x % 64)) (a .done (x / 64) (omega (arith, word-of x i)))
+        ∙ bit-or (getD w (x / 64) 0) (getD l (s * 4 + x / 64) 0) (x % 64);
+  }
 
 pub put-is : (l : List ℕ) (s r : ℕ) → length l ≡ 384 → s < 96 → r < 256
     → Put l s r (set l (s * 4 + r / 64) (bitOr (getD l (s * 4 + r / 64) 0) ((1 * 2 ^ (r % 64)) % 2 ^ 64)))

@@ -1,15 +1,14 @@
 -- A round of the triples by matrices is the round of the definition. Assumes nothing.
 use mathlib.Core.Bool.{Bool, true, false, cond, not, _&&_, _||_}
-use mathlib.Core.List.{List, []}
-use mathlib.Core.Path.{_≡_, refl, sym, ap, ap₂, _∙_, subst, subst⁻¹, fun-ext}
-use Prim.Native.Nat.{ℕ, zero, suc, _*_, _%_, _<_, _≤_}
-use native.Mathlib.Nat.{mod-lt, zero-lt-suc}
+use mathlib.Core.List.{List}
+use mathlib.Core.Path.{_≡_, refl, sym, ap, ap₂, _∙_, subst, subst⁻¹}
+use Prim.Native.Nat.{ℕ, zero, suc, _<_}
 use native.Mathlib.Omega.{arith}
 use lib.Dec.{T, eqb, eqb→eq, eqb-refl, eqb·suc-zero, eqb·suc-suc}
 use lib.ListN.{getD}
-use Rattle.product.specs.Lists.{any, upTo, _∈_}
+use Rattle.product.specs.Lists.{upTo, _∈_}
 use Rattle.product.specs.Product.{Rule, exit, direct, call, symbol, Product, InRange}
-use Rattle.product.specs.Facts.{Fact, head, triple, Way, same, first}
+use Rattle.product.specs.Facts.{Fact, head, triple, same, first}
 use Rattle.product.specs.Rounds.{held}
 use Rattle.product.specs.Table.{ranks}
 use Rattle.product.proofs.Lists
@@ -18,7 +17,6 @@ use Rattle.product.proofs.Rounds.{grown-later}
 use mathlib.Core.Logic.{_⊎_, inl, inr}
 use Rattle.product.proofs.Range.{held-within}
 use Rattle.table.specs.declared.Size.{Size}
-use Rattle.table.specs.Cells.{view}
 use Rattle.bits.specs.Bit.{bit}
 use Rattle.bits.specs.Matrix.{entry, mat, mats, some, multiplied}
 use Rattle.bits.proofs.Matrix.{multiplied-at}
@@ -29,29 +27,28 @@ use Rattle.relations.specs.Quiet.{Enough}
 use Rattle.relations.proofs.Made.{through, middle, equal}
 use Rattle.relations.proofs.Quiet.{made-next}
 use Rattle.relations.proofs.Next.{ranks-next}
+use Rattle.steps.specs.Steps.{symbolOf}
+use Rattle.steps.proofs.Laws.{symbol-low}
 use Rattle.decide.specs.Gather.{restOf, restAt, kindAt, classAt, overAt, underAt, added, addedBy, Gains}
 use Rattle.decide.specs.Stamp.{of-triples, viewOf}
-use Rattle.decide.specs.Take.{Fits, AllFit, Took, symbolAt, givenBy, fromClass, fromClasses}
-use Rattle.decide.specs.Sets.{chosen, among}
+use Rattle.decide.specs.Take.{AllFit, Took, givenBy, fromClass, fromClasses}
+use Rattle.decide.specs.Sets.{chosen}
 use Rattle.decide.specs.Frame.{ruleBy, Frame}
 use Rattle.decide.specs.Standing.{Stored}
 use Rattle.decide.proofs.Taking.{mat-in, mat-lt}
 use Rattle.decide.proofs.Below.{identity-at}
 use Rattle.decide.proofs.Members.{among-of, of-among}
 
-thirty-two : 0 < 32
-thirty-two = zero-lt-suc 31
-
-module _ (p : Product) (R : InRange p) (Q : ℕ) (rs sy tg : List ℕ) (F : Frame p Q rs sy tg) where
-  symbol-by : (r : ℕ) → r < p .rules → symbol (p .rule r) ≡ symbolAt sy (classAt rs r)
+module _ (p : Product) (R : InRange p) (Q : ℕ) (rs tg : List ℕ) (F : Frame p Q rs tg) where
+  symbol-by : (r : ℕ) → r < p .rules → symbol (p .rule r) ≡ symbolOf (classAt rs r)
   symbol-by r l = ap symbol (F .rules-are r l) ∙ go (kindAt rs r)
     where
-      go : (k : ℕ) → symbol (ruleBy k (symbolAt sy (classAt rs r)) (overAt rs r) (underAt rs r)) ≡ symbolAt sy (classAt rs r)
+      go : (k : ℕ) → symbol (ruleBy k (symbolOf (classAt rs r)) (overAt rs r) (underAt rs r)) ≡ symbolOf (classAt rs r)
       go zero = refl
       go (suc zero) = refl
       go (suc (suc k)) = refl
 
-  pub classes-are : Classes p 256 (classAt rs) (symbolAt sy) (mats tg)
+  pub classes-are : Classes p 256 (classAt rs) symbolOf (mats tg)
   classes-are = record { class-in = F .class-in; symbol-is = symbol-by; steps-are = λ r q q′ l. F .steps-are r q q′ l }
 
   pub in-states : (n : ℕ) → n < Q → n ∈ p .states
@@ -103,7 +100,7 @@ module _ (p : Product) (R : InRange p) (Q : ℕ) (rs sy tg : List ℕ) (F : Fram
     rest-is : (r k x : ℕ) → r < p .rules → k < 8 → x < 8 → mat (restAt rs e r) k x ≡ rest (p .states) h (p .rule r) k x
     unfolding restAt
     rest-is r k x l hk hx =
-        by-kind (kindAt rs r) (symbolAt sy (classAt rs r)) (overAt rs r) (underAt rs r) k x hk hx
+        by-kind (kindAt rs r) (symbolOf (classAt rs r)) (overAt rs r) (underAt rs r) k x hk hx
         ∙ ap (λ ρ. rest (p .states) h ρ k x) (sym (F .rules-are r l))
 
     rest-in : (ρ : Rule) (k x : ℕ) → k < Q → T (rest (p .states) h ρ k x) → x < Q
@@ -121,7 +118,7 @@ module _ (p : Product) (R : InRange p) (Q : ℕ) (rs sy tg : List ℕ) (F : Fram
 
     -- `by` was gathered from the rules of w; the classes of t have more than before
     module _ (w t by₀ by : List ℕ) (only : (r : ℕ) → T (chosen w r) → r < p .rules) (ch : ℕ → Bool) (enough : Enough p (chosen w) ch (held p n))
-        (stored : Stored p n rs sy tg by₀) (gains : Gains (addedBy rs e w) by₀ t by) where
+        (stored : Stored p n rs tg by₀) (gains : Gains (addedBy rs e w) by₀ t by) where
       -- a rule of the class has what was gathered
       rests-of : (c k x : ℕ) → T (mats by c k x) → (r : ℕ) × (r < p .rules) × (classAt rs r ≡ c) × T (rest (p .states) h (p .rule r) k x)
       unfolding addedBy
@@ -148,15 +145,15 @@ module _ (p : Product) (R : InRange p) (Q : ℕ) (rs sy tg : List ℕ) (F : Fram
           narrow (triple q g x) z = absurd (subst T z tt)
 
       -- through the steps of the class it is held in the next round
-      pub next-held : (c q k x : ℕ) → T (mats tg c q k) → T (mats by c k x) → T (held p (suc n) (triple q (symbolAt sy c) x))
+      pub next-held : (c q k x : ℕ) → T (mats tg c q k) → T (mats by c k x) → T (held p (suc n) (triple q (symbolOf c) x))
       next-held c q k x a b =
           let (r, l, y, u) = rests-of c k x b in
           let (_, ik) = F .steps-in c q k a in
-          subst⁻¹ T (made-next p R (λ _. true) ch n enough-all (triple q (symbolAt sy c) x))
-          (or-right (held p n (triple q (symbolAt sy c) x)) (made p (λ _. true) ch h (triple q (symbolAt sy c) x))
-          (through (upTo (p .rules)) (λ _. true) (λ r. erases p h r q (symbolAt sy c) x) r (in-upTo (p .rules) r l) tt
-          (both (eqb (symbol (p .rule r)) (symbolAt sy c)) (followed (p .states) (steps p r) (rest (p .states) h (p .rule r)) q x)
-          (equal (symbol-by r l ∙ ap (symbolAt sy) y))
+          subst⁻¹ T (made-next p R (λ _. true) ch n enough-all (triple q (symbolOf c) x))
+          (or-right (held p n (triple q (symbolOf c) x)) (made p (λ _. true) ch h (triple q (symbolOf c) x))
+          (through (upTo (p .rules)) (λ _. true) (λ r. erases p h r q (symbolOf c) x) r (in-upTo (p .rules) r l) tt
+          (both (eqb (symbol (p .rule r)) (symbolOf c)) (followed (p .states) (steps p r) (rest (p .states) h (p .rule r)) q x)
+          (equal (symbol-by r l ∙ ap symbolOf y))
           (through (p .states) (steps p r q) (λ k. rest (p .states) h (p .rule r) k x) k (in-states k ik) (subst⁻¹ T (F .steps-are r q k l) (subst⁻¹ (λ c. T (mats tg c q k)) y a)) u))))
 
       -- an entry of what a class gives, by its middle state
@@ -179,51 +176,51 @@ module _ (p : Product) (R : InRange p) (Q : ℕ) (rs sy tg : List ℕ) (F : Fram
           (some-of 8 (λ k. entry (getD tg c 0) q k && entry (getD by c 0) k x) k hk (both (entry (getD tg c 0) q k) (entry (getD by c 0) k x) u v))
 
       -- what a class gives is in range
-      pub all-fit : (z : Size) → z .states ≡ Q → z .symbols ≡ p .symbols → AllFit z sy tg by
+      pub all-fit : (z : Size) → z .states ≡ Q → z .symbols ≡ p .symbols → AllFit z tg by
       all-fit z s g c = record {
-        small = mod-lt (getD sy c 0) thirty-two;
+        small = symbol-low c;
         inside = λ q x u.
             let (k, a, b) = given-by c q x u in
-            let (i, j, l) = held-within p R (suc n) (triple q (symbolAt sy c) x) (next-held c q k x a b) in
-            (subst⁻¹ (λ n. symbolAt sy c < n) g j, subst⁻¹ (λ n. q < n) s (states-in q i), subst⁻¹ (λ n. x < n) s (states-in x l));
+            let (i, j, l) = held-within p R (suc n) (triple q (symbolOf c) x) (next-held c q k x a b) in
+            (subst⁻¹ (λ n. symbolOf c < n) g j, subst⁻¹ (λ n. q < n) s (states-in q i), subst⁻¹ (λ n. x < n) s (states-in x l));
       }
 
       abbrev gives : (q g x c : ℕ) → Bool
-      gives q g x c = eqb (symbolAt sy c) g && mat (givenBy tg by c) q x
+      gives q g x c = eqb (symbolOf c) g && mat (givenBy tg by c) q x
 
       -- THE ROUND of the triples: what was held, and what the classes of t give
-      pub classes-next : (q g x : ℕ) → held p (suc n) (triple q g x) ≡ held p n (triple q g x) || fromClasses sy tg by t g q x
+      pub classes-next : (q g x : ℕ) → held p (suc n) (triple q g x) ≡ held p n (triple q g x) || fromClasses tg by t g q x
       unfolding fromClasses fromClass addedBy
-      classes-next q g x = same-truth (held p (suc n) (triple q g x)) (held p n (triple q g x) || fromClasses sy tg by t g q x) to from
+      classes-next q g x = same-truth (held p (suc n) (triple q g x)) (held p n (triple q g x) || fromClasses tg by t g q x) to from
         where
-          from : T (held p n (triple q g x) || fromClasses sy tg by t g q x) → T (held p (suc n) (triple q g x))
-          from u = go (or-cases (held p n (triple q g x)) (fromClasses sy tg by t g q x) u)
+          from : T (held p n (triple q g x) || fromClasses tg by t g q x) → T (held p (suc n) (triple q g x))
+          from u = go (or-cases (held p n (triple q g x)) (fromClasses tg by t g q x) u)
             where
-              go : T (held p n (triple q g x)) ⊎ T (fromClasses sy tg by t g q x) → T (held p (suc n) (triple q g x))
+              go : T (held p n (triple q g x)) ⊎ T (fromClasses tg by t g q x) → T (held p (suc n) (triple q g x))
               go (inl a) = grown-later p (same (first p)) n (triple q g x) a
               go (inr a) =
                   let (c, _, _, b) = of-among t (gives q g x) a in
-                  let (k, d, f) = given-by c q x (and-right (eqb (symbolAt sy c) g) (mat (givenBy tg by c) q x) b) in
-                  subst (λ g. T (held p (suc n) (triple q g x))) (eqb→eq (symbolAt sy c) g (and-left (eqb (symbolAt sy c) g) (mat (givenBy tg by c) q x) b)) (next-held c q k x d f)
+                  let (k, d, f) = given-by c q x (and-right (eqb (symbolOf c) g) (mat (givenBy tg by c) q x) b) in
+                  subst (λ g. T (held p (suc n) (triple q g x))) (eqb→eq (symbolOf c) g (and-left (eqb (symbolOf c) g) (mat (givenBy tg by c) q x) b)) (next-held c q k x d f)
 
-          to : T (held p (suc n) (triple q g x)) → T (held p n (triple q g x) || fromClasses sy tg by t g q x)
+          to : T (held p (suc n) (triple q g x)) → T (held p n (triple q g x) || fromClasses tg by t g q x)
           to u = go (or-cases (held p n (triple q g x)) (made p (chosen w) ch h (triple q g x)) (subst T (made-next p R (chosen w) ch n enough (triple q g x)) u))
             where
-              here : (c k : ℕ) → symbolAt sy c ≡ g → T (mats tg c q k) → T (mats by c k x) → c < 256 → (b : Bool) → chosen t c ≡ b → T (held p n (triple q g x) || fromClasses sy tg by t g q x)
+              here : (c k : ℕ) → symbolOf c ≡ g → T (mats tg c q k) → T (mats by c k x) → c < 256 → (b : Bool) → chosen t c ≡ b → T (held p n (triple q g x) || fromClasses tg by t g q x)
               here c k y f m l true z =
-                  or-right (held p n (triple q g x)) (fromClasses sy tg by t g q x)
-                  (among-of t (gives q g x) c l (subst⁻¹ T z tt) (both (eqb (symbolAt sy c) g) (mat (givenBy tg by c) q x) (equal y) (by-given c q k x f m)))
+                  or-right (held p n (triple q g x)) (fromClasses tg by t g q x)
+                  (among-of t (gives q g x) c l (subst⁻¹ T z tt) (both (eqb (symbolOf c) g) (mat (givenBy tg by c) q x) (equal y) (by-given c q k x f m)))
               here c k y f m l false z =
-                  or-left (held p n (triple q g x)) (fromClasses sy tg by t g q x)
+                  or-left (held p n (triple q g x)) (fromClasses tg by t g q x)
                   (subst (λ g. T (held p n (triple q g x))) y (stored .settled c q k x f (subst (λ n. T (mat n k x)) (gains .same c z) m)))
 
-              go : T (held p n (triple q g x)) ⊎ T (made p (chosen w) ch h (triple q g x)) → T (held p n (triple q g x) || fromClasses sy tg by t g q x)
-              go (inl a) = or-left (held p n (triple q g x)) (fromClasses sy tg by t g q x) a
+              go : T (held p n (triple q g x)) ⊎ T (made p (chosen w) ch h (triple q g x)) → T (held p n (triple q g x) || fromClasses tg by t g q x)
+              go (inl a) = or-left (held p n (triple q g x)) (fromClasses tg by t g q x) a
               go (inr a) =
                   let (r, i, d, b) = middle (upTo (p .rules)) (chosen w) (λ r. erases p h r q g x) a in
                   let l : r < p .rules = upTo-lt (p .rules) r i in
                   let more : Bool = followed (p .states) (steps p r) (rest (p .states) h (p .rule r)) q x in
-                  let y : symbolAt sy (classAt rs r) ≡ g = sym (symbol-by r l) ∙ eqb→eq (symbol (p .rule r)) g (and-left (eqb (symbol (p .rule r)) g) more b) in
+                  let y : symbolOf (classAt rs r) ≡ g = sym (symbol-by r l) ∙ eqb→eq (symbol (p .rule r)) g (and-left (eqb (symbol (p .rule r)) g) more b) in
                   let (k, _, f, v) = middle (p .states) (steps p r q) (λ k. rest (p .states) h (p .rule r) k x) (and-right (eqb (symbol (p .rule r)) g) more b) in
                   let f′ : T (mats tg (classAt rs r) q k) = subst T (F .steps-are r q k l) f in
                   let (_, ik) = F .steps-in (classAt rs r) q k f′ in
@@ -236,7 +233,7 @@ module _ (p : Product) (R : InRange p) (Q : ℕ) (rs sy tg : List ℕ) (F : Fram
                   here (classAt rs r) k y f′ m (F .class-in r l) (chosen t (classAt rs r)) refl
 
       -- what is stored after the round
-      pub stored-next : Stored p (suc n) rs sy tg by
+      pub stored-next : Stored p (suc n) rs tg by
       stored-next = record {
         long = gains .long;
         sound = λ c k x u. let (r, l, y, v) = rests-of c k x u in (r, l, y, rest-later (p .rule r) k x v);
@@ -244,15 +241,15 @@ module _ (p : Product) (R : InRange p) (Q : ℕ) (rs sy tg : List ℕ) (F : Fram
       }
 
       -- If the rules of w are enough, the matrices hold the triples of round n + 1 after it, and the table has their ranks.
-      module _ (z : Size) (ts : List ℕ) (v : ℕ) (e′ ts′ : List ℕ) (took : Took of-triples z (suc n) (fromClasses sy tg by t) e ts v e′ ts′) where
+      module _ (z : Size) (ts : List ℕ) (v : ℕ) (e′ ts′ : List ℕ) (took : Took of-triples z (suc n) (fromClasses tg by t) e ts v e′ ts′) where
         pub triples-held : (g q x : ℕ) → mats e′ g q x ≡ held p (suc n) (triple q g x)
-        triples-held g q x = took .entries g q x ∙ ap (λ b. b || fromClasses sy tg by t g q x) (held-is g q x) ∙ sym (classes-next q g x)
+        triples-held g q x = took .entries g q x ∙ ap (λ b. b || fromClasses tg by t g q x) (held-is g q x) ∙ sym (classes-next q g x)
 
         -- what is new: held now, and not before
-        new-is : (g q x : ℕ) → fromClasses sy tg by t g q x && not (mats e g q x) ≡ held p (suc n) (triple q g x) && not (held p n (triple q g x))
+        new-is : (g q x : ℕ) → fromClasses tg by t g q x && not (mats e g q x) ≡ held p (suc n) (triple q g x) && not (held p n (triple q g x))
         new-is g q x =
-            ap (λ b. fromClasses sy tg by t g q x && not b) (held-is g q x)
-            ∙ go (held p n (triple q g x)) (fromClasses sy tg by t g q x)
+            ap (λ b. fromClasses tg by t g q x && not b) (held-is g q x)
+            ∙ go (held p n (triple q g x)) (fromClasses tg by t g q x)
             ∙ ap (λ b. b && not (held p n (triple q g x))) (sym (classes-next q g x))
           where
             go : (a b : Bool) → b && not a ≡ (a || b) && not a
@@ -272,14 +269,14 @@ module _ (p : Product) (R : InRange p) (Q : ℕ) (rs sy tg : List ℕ) (F : Fram
         pub triples-quiet : (q g x : ℕ) → bit v g ≡ false → T (held p (suc n) (triple q g x)) → T (held p n (triple q g x))
         triples-quiet q g x y u = go (held p n (triple q g x)) (subst T (classes-next q g x) u) refl
           where
-            go : (b : Bool) → T (b || fromClasses sy tg by t g q x) → held p n (triple q g x) ≡ b → T b
+            go : (b : Bool) → T (b || fromClasses tg by t g q x) → held p n (triple q g x) ≡ b → T b
             go true u i = tt
             go false u i = subst T (held-is g q x ∙ i) (took .quiet g y q x u)
 
         pub triples-fresh : (g : ℕ) → T (bit v g) → (q : ℕ) × (x : ℕ) × T (held p (suc n) (triple q g x)) × T (not (held p n (triple q g x)))
         triples-fresh g y =
             let (q, x, a, b) = took .fresh g y in
-            let u : T (held p (suc n) (triple q g x) && not (held p n (triple q g x))) = subst T (new-is g q x) (both (fromClasses sy tg by t g q x) (not (mats e g q x)) a b) in (
+            let u : T (held p (suc n) (triple q g x) && not (held p n (triple q g x))) = subst T (new-is g q x) (both (fromClasses tg by t g q x) (not (mats e g q x)) a b) in (
               q,
               x,
               and-left (held p (suc n) (triple q g x)) (not (held p n (triple q g x))) u,

@@ -1,30 +1,34 @@
 -- The heads that rules give: of one, and of all in a set; and the rows taken in. Assumes nothing.
-use mathlib.Core.Bool.{Bool, true, false, cond, not, _&&_, _||_}
+use mathlib.Core.Bool.{Bool, true, false, not, _&&_, _||_}
 use mathlib.Core.List.{List}
 use mathlib.Core.Logic.{_⊎_, inl, inr}
 use mathlib.Core.Path.{_≡_, refl, sym, ap, ap₂, _∙_, subst, subst⁻¹}
-use Prim.Native.Nat.{ℕ, zero, suc, _+_, _-_, _*_, _%_, _^_, _<_, _≤_}
-use native.Mathlib.Nat.{zero-add, mul-comm}
+use Prim.Native.Nat.{ℕ, zero, suc, _+_, _-_, _*_, _%_, _^_, _<_}
+use native.Mathlib.Nat.{zero-add}
 use native.Mathlib.Omega.{arith}
 use native.Mathlib.Decide.{ℕ-discrete}
-use lib.Dec.{T, eqb, ltb, eqb→eq, eqb·suc-zero, eqb·suc-suc}
+use lib.Dec.{T, eqb, eqb→eq, eqb·suc-zero, eqb·suc-suc}
 use borrow.Author.Tests.{eq-eqb, ne-eqb, lt-ltb}
 use lib.Bits.{bitAnd, bitOr}
 use lib.ListN.{length, length-set, getD, set}
 use lib.Seq.{getD-set-same, getD-set-other}
-use Rattle.product.proofs.Lists.{and-left, and-right, or-cases, T-true}
+use Rattle.product.proofs.Lists.{and-left, and-right, or-cases}
 use Rattle.table.specs.declared.Size.{Size}
 use Rattle.bits.specs.Bit.{bit}
-use Rattle.steps.specs.Steps.{classOf, statesAfter}
+use Rattle.lent.specs.Lending.{modelIn}
+use Rattle.lent.proofs.Parts.{in-part}
+use Rattle.steps.specs.Steps.{classOf, symbolOf, statesAfter}
+use Rattle.steps.proofs.Built.{class-row}
 use Rattle.bits.specs.Matrix.{mat, mats, some, passed, image}
 use Rattle.bits.proofs.Bit.{bit-or, bit-zero}
 use Rattle.bits.proofs.Set.{bit-pow, one-shifted}
 use Rattle.bits.proofs.Lowest.{lowest, lowest-set, cleared, cleared-less}
 use Rattle.bits.proofs.Image.{image-at}
-use Rattle.decide.specs.Sets.{among, Picked}
+use Rattle.decide.specs.declared.rows.Row.{Row}
+use Rattle.decide.specs.Sets.{Picked}
 use Rattle.decide.specs.Stamp.{of-heads, Entries, alone}
-use Rattle.decide.specs.Gather.{kindAt, classAt, overAt, underAt, Empty}
-use Rattle.decide.specs.Take.{Took, Room, Fits, symbolAt}
+use Rattle.decide.specs.Gather.{kindAt, classAt, overAt, underAt, RowAt, Empty}
+use Rattle.decide.specs.Take.{Took, Room, Fits}
 use Rattle.decide.specs.Show.{landing, shownBy, shown, shownAll, Shows, RowsCover, ShowsAll, RowsFit, SettlesRows}
 use Rattle.decide.proofs.Members.{or-false, among-picked, among-none}
 use Rattle.decide.proofs.Gathered.{or-assoc, mat-none}
@@ -88,14 +92,15 @@ shows-alike m m′ {a} k s = record {
 }
 
 -- the class of a row
-pub class-at : (rs : List ℕ) (i : ℕ) → i < 256 → classOf rs i ≡ classAt rs i
-unfolding classOf
-class-at rs i h = rw (lt-ltb i 256 h) (ap (λ n. getD rs (n + 1) 0) (mul-comm i 4))
+-- a class read where the rules of a lent model lie
+pub class-at : (rs : List ℕ) (i : ℕ) → i < 256 → classOf (modelIn rs) i ≡ classAt rs i
+unfolding modelIn
+class-at rs i h = sym (class-row (modelIn rs) i h (in-part rs 0 1024 (i * 4 + 1) (4 * i + 1) (omega arith) (omega arith)))
 
-pub land-is : (rs sy tg hd : List ℕ) (i c g v : ℕ) → i < 256 → c ≡ classOf rs i → g ≡ symbolAt sy c → v ≡ statesAfter rs tg i (getD hd g 0) → v ≡ landing sy tg hd (classAt rs i)
+pub land-is : (rs tg hd : List ℕ) (i c g v : ℕ) → i < 256 → c ≡ classOf (modelIn rs) i → g ≡ symbolOf c → v ≡ statesAfter (modelIn rs) tg i (getD hd g 0) → v ≡ landing tg hd (classAt rs i)
 unfolding landing statesAfter
-land-is rs sy tg hd i c g v h c-is g-is v-is =
-    v-is ∙ ap₂ (λ g c. image (getD hd g 0) (getD tg c 0)) (g-is ∙ ap (symbolAt sy) (c-is ∙ class-at rs i h)) (class-at rs i h)
+land-is rs tg hd i c g v h c-is g-is v-is =
+    v-is ∙ ap₂ (λ g c. image (getD hd g 0) (getD tg c 0)) (g-is ∙ ap symbolOf (c-is ∙ class-at rs i h)) (class-at rs i h)
 
 some-off : (n : ℕ) (f : ℕ → Bool) → ((k : ℕ) → f k ≡ false) → some n f ≡ false
 some-off zero f h = refl
@@ -114,90 +119,96 @@ nowhere (suc (suc j)) over under e l h g x =
     (ap₂ _||_ (ap (λ b. eqb over g && b) (h x) ∙ off-and (eqb over g))
     (ap (λ b. eqb under g && b) (some-off 8 (λ k. l k && mats e over k x) (λ k. ap (λ b. b && mats e over k x) (h k))) ∙ off-and (eqb under g)))
 
--- one rule
-module _ (rs sy tg e hd nh : List ℕ) (i : ℕ) where
+-- one rule, by its row
+module _ {rs : List ℕ} {i : ℕ} {row : Row} (at : RowAt rs i row) (tg e hd nh : List ℕ) where
   abbrev l : ℕ → Bool
-  l = bit (landing sy tg hd (classAt rs i))
+  l = bit (landing tg hd (classAt rs i))
 
-  pub show-exit : kindAt rs i ≡ 0 → Shows (shown rs sy tg e hd i) nh 0 nh
+  pub show-exit : row .kind ≡ 0 → Shows (shown rs tg e hd i) nh 0 nh
   unfolding shown
-  show-exit k = shows-none (shown rs sy tg e hd i) nh (λ g x. rw (eq-eqb (kindAt rs i) 0 k))
+  show-exit k = shows-none (shown rs tg e hd i) nh (λ g x. rw (eq-eqb (kindAt rs i) 0 (sym (at .kind-is) ∙ k)))
 
-  module _ (k : kindAt rs i ≡ 0 → ⊥) (v : ℕ) (v-is : v ≡ landing sy tg hd (classAt rs i)) where
+  module _ (k : row .kind ≡ 0 → ⊥) {v : ℕ} (v-is : v ≡ landing tg hd (classAt rs i)) where
     lands : (x : ℕ) → bit v x ≡ l x
     lands x = ap (λ n. bit n x) v-is
 
-    pub show-none : v ≡ 0 → Shows (shown rs sy tg e hd i) nh 0 nh
+    not-exit : eqb (kindAt rs i) 0 ≡ false
+    not-exit = ne-eqb (kindAt rs i) 0 (λ z. k (at .kind-is ∙ z))
+
+    pub show-none : v ≡ 0 → Shows (shown rs tg e hd i) nh 0 nh
     unfolding shown
     show-none z =
-        shows-none (shown rs sy tg e hd i) nh
+        shows-none (shown rs tg e hd i) nh
         (nowhere (kindAt rs i) (overAt rs i) (underAt rs i) e l (λ x. sym (lands x) ∙ ap (λ n. bit n x) z ∙ bit-zero x))
 
-    module _ (g1 : ℕ) (g1-is : g1 ≡ overAt rs i) {t : ℕ} {nh′ : List ℕ} (s : Shows (λ g x. eqb g1 g && bit v x) nh t nh′) where
+    module _ {t : ℕ} {nh′ : List ℕ} (s : Shows (λ g x. eqb (row .over) g && bit v x) nh t nh′) where
       on-top : Shows (λ g x. eqb (overAt rs i) g && l x) nh t nh′
-      on-top = shows-alike (λ g x. eqb g1 g && bit v x) (λ g x. eqb (overAt rs i) g && l x) (λ g x. ap₂ (λ h b. eqb h g && b) g1-is (lands x)) s
+      on-top = shows-alike (λ g x. eqb (row .over) g && bit v x) (λ g x. eqb (overAt rs i) g && l x) (λ g x. ap₂ (λ h b. eqb h g && b) (at .over-is) (lands x)) s
 
-      pub show-direct : kindAt rs i ≡ 1 → Shows (shown rs sy tg e hd i) nh t nh′
+      pub show-direct : row .kind ≡ 1 → Shows (shown rs tg e hd i) nh t nh′
       unfolding shown
       show-direct j =
-          shows-alike (λ g x. eqb (overAt rs i) g && l x) (shown rs sy tg e hd i) (λ g x. rw (ne-eqb (kindAt rs i) 0 k, eq-eqb (kindAt rs i) 1 j)) on-top
+          shows-alike (λ g x. eqb (overAt rs i) g && l x) (shown rs tg e hd i) (λ g x. rw (not-exit, eq-eqb (kindAt rs i) 1 (sym (at .kind-is) ∙ j))) on-top
 
-      -- a call whose g1 has no triple
-      pub show-entered : (kindAt rs i ≡ 1 → ⊥) → getD e g1 0 ≡ 0 → Shows (shown rs sy tg e hd i) nh t nh′
-      unfolding shown
-      show-entered j z =
-          shows-alike (λ g x. eqb (overAt rs i) g && l x) (shown rs sy tg e hd i)
-          (λ g x. rw (ne-eqb (kindAt rs i) 0 k, ne-eqb (kindAt rs i) 1 j) (or-false (eqb (overAt rs i) g && l x) ∙ ap (λ b. (eqb (overAt rs i) g && l x) || b) (sym (none g x)))) on-top
-        where
-          no-triple : (q x : ℕ) → mats e (overAt rs i) q x ≡ false
-          no-triple q x = mat-none (getD e (overAt rs i) 0) q x (ap (λ g. getD e g 0) (sym g1-is) ∙ z)
+      module _ (j : row .kind ≡ 1 → ⊥) where
+        is-call : eqb (kindAt rs i) 1 ≡ false
+        is-call = ne-eqb (kindAt rs i) 1 (λ z. j (at .kind-is ∙ z))
 
-          none : (g x : ℕ) → eqb (underAt rs i) g && some 8 (λ k. l k && mats e (overAt rs i) k x) ≡ false
-          none g x = ap (λ b. eqb (underAt rs i) g && b) (some-off 8 (λ k. l k && mats e (overAt rs i) k x) (λ k. ap (λ b. l k && b) (no-triple k x) ∙ off-and (l k))) ∙ off-and (eqb (underAt rs i) g)
-
-      module _ (j : kindAt rs i ≡ 1 → ⊥) (u g2 : ℕ) (u-is : u ≡ image v (getD e g1 0)) (g2-is : g2 ≡ underAt rs i)
-          {t′ : ℕ} {nh″ : List ℕ} (s′ : Shows (λ g x. eqb g2 g && bit u x) nh′ t′ nh″) where
-        back : (x : ℕ) → bit u x ≡ some 8 (λ k. l k && mats e (overAt rs i) k x)
-        unfolding passed
-        back x =
-            ap (λ n. bit n x) u-is ∙ image-at v (getD e g1 0) x ∙ ap (λ g. some 8 (λ k. mat v 0 k && mat (getD e g 0) k x)) g1-is
-            ∙ some-alike 8 (λ k. mat v 0 k && mats e (overAt rs i) k x) (λ k. l k && mats e (overAt rs i) k x)
-            (λ k h. ap (λ b. b && mats e (overAt rs i) k x) (ap (λ b. b && bit v (0 * 8 + k)) (lt-ltb k 8 h) ∙ ap (bit v) (zero-add k) ∙ lands k))
-
-        under : Shows (λ g x. eqb (underAt rs i) g && some 8 (λ k. l k && mats e (overAt rs i) k x)) nh′ t′ nh″
-        under =
-            shows-alike (λ g x. eqb g2 g && bit u x) (λ g x. eqb (underAt rs i) g && some 8 (λ k. l k && mats e (overAt rs i) k x))
-            (λ g x. ap₂ (λ h b. eqb h g && b) g2-is (back x)) s′
-
-        pub show-call : Shows (shown rs sy tg e hd i) nh (bitOr t t′) nh″
+        -- a call whose g1 has no triple
+        pub show-entered : getD e (row .over) 0 ≡ 0 → Shows (shown rs tg e hd i) nh t nh′
         unfolding shown
-        show-call =
-            shows-alike (λ g x. (eqb (overAt rs i) g && l x) || (eqb (underAt rs i) g && some 8 (λ k. l k && mats e (overAt rs i) k x))) (shown rs sy tg e hd i)
-            (λ g x. rw (ne-eqb (kindAt rs i) 0 k, ne-eqb (kindAt rs i) 1 j)) (shows-then on-top under)
+        show-entered z =
+            shows-alike (λ g x. eqb (overAt rs i) g && l x) (shown rs tg e hd i)
+            (λ g x. rw (not-exit, is-call) (or-false (eqb (overAt rs i) g && l x) ∙ ap (λ b. (eqb (overAt rs i) g && l x) || b) (sym (none g x)))) on-top
+          where
+            no-triple : (q x : ℕ) → mats e (overAt rs i) q x ≡ false
+            no-triple q x = mat-none (getD e (overAt rs i) 0) q x (ap (λ g. getD e g 0) (sym (at .over-is)) ∙ z)
+
+            none : (g x : ℕ) → eqb (underAt rs i) g && some 8 (λ k. l k && mats e (overAt rs i) k x) ≡ false
+            none g x = ap (λ b. eqb (underAt rs i) g && b) (some-off 8 (λ k. l k && mats e (overAt rs i) k x) (λ k. ap (λ b. l k && b) (no-triple k x) ∙ off-and (l k))) ∙ off-and (eqb (underAt rs i) g)
+
+        module _ {u : ℕ} (u-is : u ≡ image v (getD e (row .over) 0)) {t′ : ℕ} {nh″ : List ℕ} (s′ : Shows (λ g x. eqb (row .under) g && bit u x) nh′ t′ nh″) where
+          back : (x : ℕ) → bit u x ≡ some 8 (λ k. l k && mats e (overAt rs i) k x)
+          unfolding passed
+          back x =
+              ap (λ n. bit n x) u-is ∙ image-at v (getD e (row .over) 0) x ∙ ap (λ g. some 8 (λ k. mat v 0 k && mat (getD e g 0) k x)) (at .over-is)
+              ∙ some-alike 8 (λ k. mat v 0 k && mats e (overAt rs i) k x) (λ k. l k && mats e (overAt rs i) k x)
+              (λ k h. ap (λ b. b && mats e (overAt rs i) k x) (ap (λ b. b && bit v (0 * 8 + k)) (lt-ltb k 8 h) ∙ ap (bit v) (zero-add k) ∙ lands k))
+
+          under : Shows (λ g x. eqb (underAt rs i) g && some 8 (λ k. l k && mats e (overAt rs i) k x)) nh′ t′ nh″
+          under =
+              shows-alike (λ g x. eqb (row .under) g && bit u x) (λ g x. eqb (underAt rs i) g && some 8 (λ k. l k && mats e (overAt rs i) k x))
+              (λ g x. ap₂ (λ h b. eqb h g && b) (at .under-is) (back x)) s′
+
+          pub show-call : Shows (shown rs tg e hd i) nh (bitOr t t′) nh″
+          unfolding shown
+          show-call =
+              shows-alike (λ g x. (eqb (overAt rs i) g && l x) || (eqb (underAt rs i) g && some 8 (λ k. l k && mats e (overAt rs i) k x))) (shown rs tg e hd i)
+              (λ g x. rw (not-exit, is-call)) (shows-then on-top under)
 
 -- the rules of a set: what is left to show, with the rows as they are, makes what was asked
-pub record Left (rs sy tg e hd w nh₀ left : List ℕ) (t : ℕ) (nh : List ℕ) : Type 0 where
+pub record Left (rs tg e hd w nh₀ left : List ℕ) (t : ℕ) (nh : List ℕ) : Type 0 where
   pub long : length left ≡ 4
-  pub rows : (g x : ℕ) → bit (getD nh g 0) x || shownAll rs sy tg e hd left g x ≡ shownAll rs sy tg e hd w g x
+  pub rows : (g x : ℕ) → bit (getD nh g 0) x || shownAll rs tg e hd left g x ≡ shownAll rs tg e hd w g x
   pub covers : RowsCover t nh
 
-module _ {rs sy tg e hd w nh₀ : List ℕ} where
-  pub left-first : length w ≡ 4 → Empty 32 nh₀ → Left rs sy tg e hd w nh₀ w 0 nh₀
+module _ {rs tg e hd w nh₀ : List ℕ} where
+  pub left-first : length w ≡ 4 → Empty 32 nh₀ → Left rs tg e hd w nh₀ w 0 nh₀
   left-first h z = record {
     long = h;
-    rows = λ g x. ap (λ n. bit n x || shownAll rs sy tg e hd w g x) (z .empty g) ∙ ap (λ b. b || shownAll rs sy tg e hd w g x) (bit-zero x);
+    rows = λ g x. ap (λ n. bit n x || shownAll rs tg e hd w g x) (z .empty g) ∙ ap (λ b. b || shownAll rs tg e hd w g x) (bit-zero x);
     covers = record { long = z .long; low = λ g t. absurd (subst T (bit-zero g) t); empty = λ g _. z .empty g };
   }
 
-  pub left-next : {left left′ nh nh′ : List ℕ} {t t′ i : ℕ} → i < 256 → Picked left i left′ → Left rs sy tg e hd w nh₀ left t nh
-      → Shows (shown rs sy tg e hd i) nh t′ nh′ → Left rs sy tg e hd w nh₀ left′ (bitOr t t′) nh′
+  pub left-next : {left left′ nh nh′ : List ℕ} {t t′ i : ℕ} → i < 256 → Picked left i left′ → Left rs tg e hd w nh₀ left t nh
+      → Shows (shown rs tg e hd i) nh t′ nh′ → Left rs tg e hd w nh₀ left′ (bitOr t t′) nh′
   unfolding shownAll
   left-next {left} {left′} {nh} {nh′} {t} {t′} {i} h p l s = record {
     long = p .long;
     rows = λ g x.
-        ap (λ b. b || shownAll rs sy tg e hd left′ g x) (s .rows g x)
-        ∙ sym (or-assoc (bit (getD nh g 0) x) (shown rs sy tg e hd i g x) (shownAll rs sy tg e hd left′ g x))
-        ∙ ap (λ b. bit (getD nh g 0) x || b) (sym (among-picked left (λ i. shown rs sy tg e hd i g x) i left′ h p))
+        ap (λ b. b || shownAll rs tg e hd left′ g x) (s .rows g x)
+        ∙ sym (or-assoc (bit (getD nh g 0) x) (shown rs tg e hd i g x) (shownAll rs tg e hd left′ g x))
+        ∙ ap (λ b. bit (getD nh g 0) x || b) (sym (among-picked left (λ i. shown rs tg e hd i g x) i left′ h p))
         ∙ l .rows g x;
     covers = record {
       long = s .as-long ∙ l .covers .long;
@@ -210,11 +221,11 @@ module _ {rs sy tg e hd w nh₀ : List ℕ} where
       go g (inl x) = l .covers .low g x
       go g (inr x) = s .low g x
 
-  pub left-last : {left left′ nh : List ℕ} {t i : ℕ} → (i < 256 → ⊥) → Picked left i left′ → Left rs sy tg e hd w nh₀ left t nh
-      → ShowsAll (shownAll rs sy tg e hd w) t nh
+  pub left-last : {left left′ nh : List ℕ} {t i : ℕ} → (i < 256 → ⊥) → Picked left i left′ → Left rs tg e hd w nh₀ left t nh
+      → ShowsAll (shownAll rs tg e hd w) t nh
   unfolding shownAll
   left-last {left} {left′} {nh} h p l = record {
-    rows = λ g x. or-false (bit (getD nh g 0) x) ∙ ap (λ b. bit (getD nh g 0) x || b) (sym (among-none left (λ i. shown rs sy tg e hd i g x) (p .none h))) ∙ l .rows g x;
+    rows = λ g x. or-false (bit (getD nh g 0) x) ∙ ap (λ b. bit (getD nh g 0) x || b) (sym (among-none left (λ i. shown rs tg e hd i g x) (p .none h))) ∙ l .rows g x;
     covers = l .covers;
   }
 

@@ -2,7 +2,7 @@
 use mathlib.Core.Bool.{Bool, true, false, cond, not, _&&_, and-true}
 use mathlib.Core.List.{List, []}
 use mathlib.Core.Path.{_≡_, refl, sym, ap, ap₂, _∙_, subst, subst⁻¹, fun-ext}
-use Prim.Native.Nat.{ℕ, zero, suc, _+_, _-_, _*_, _/_, _%_, _^_, _<_, _≤_}
+use Prim.Native.Nat.{ℕ, _+_, _-_, _*_, _/_, _%_, _^_, _<_, _≤_}
 use native.Mathlib.Nat.{div-add-mod', mod-lt, zero-lt-suc, zero-add, div-lt-iff-lt-mul, mul-comm, mul-assoc, add-mul}
 use native.Mathlib.Omega.{arith}
 use native.Mathlib.Decide.{ℕ-discrete, decLt}
@@ -14,7 +14,7 @@ use lib.Bits.{bitAnd}
 use Rattle.product.specs.Facts.{Fact, head, triple, same}
 use Rattle.product.specs.Table.{Table}
 use Rattle.table.specs.declared.Size.{Size}
-use Rattle.table.specs.Cells.{view, store, tripleCell, putHead, putTriple}
+use Rattle.table.specs.Cells.{store, tripleCell, putHead, putTriple}
 use Rattle.table.proofs.Cells.{triple-inside}
 use Rattle.table.proofs.Store.{store-head, past-head, length-head, store-triple, past-triple, length-triple}
 use Rattle.product.proofs.Lists.{T-true}

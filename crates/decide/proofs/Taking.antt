@@ -1,32 +1,30 @@
 -- Entries taken in: none, those of one matrix, and some after others. Assumes nothing.
 use mathlib.Core.Bool.{Bool, true, false, cond, not, _&&_, _||_}
-use mathlib.Core.List.{List, []}
+use mathlib.Core.List.{List}
 use mathlib.Core.Logic.{_⊎_, inl, inr}
-use mathlib.Core.Path.{_≡_, refl, sym, ap, ap₂, _∙_, subst, subst⁻¹, fun-ext}
-use Prim.Native.Nat.{ℕ, zero, suc, _+_, _*_, _/_, _%_, _^_, _<_, _≤_}
-use native.Mathlib.Nat.{pow-suc, div-add-mod', mod-lt, zero-lt-suc, div-lt-iff-lt-mul}
-use native.Mathlib.Numerals.{add-one}
+use mathlib.Core.Path.{_≡_, refl, sym, ap, _∙_, subst, subst⁻¹, fun-ext}
+use Prim.Native.Nat.{ℕ, _+_, _*_, _/_, _%_, _^_, _<_}
+use native.Mathlib.Nat.{div-add-mod', mod-lt, zero-lt-suc}
 use native.Mathlib.Omega.{arith}
-use native.Mathlib.Decide.{ℕ-discrete, decLt}
-use lib.Dec.{T, T-not, eqb, ltb, eqb→eq, ltb→lt, eqb-refl}
-use borrow.Author.Tests.{eq-eqb, ne-eqb, lt-ltb, le-ltb, ltb-false}
-use lib.Bits.{bitOr, bitXor, or-lt}
-use lib.ListN.{length, length-set, drop, getD, set}
+use native.Mathlib.Decide.{ℕ-discrete}
+use lib.Dec.{T, eqb, ltb, eqb→eq, ltb→lt}
+use borrow.Author.Tests.{eq-eqb, ne-eqb, lt-ltb}
+use lib.Bits.{bitOr, bitXor}
+use lib.ListN.{length, length-set, getD, set}
 use lib.Seq.{getD-set-same, getD-set-other}
 use Rattle.product.specs.Facts.{Fact, head, triple}
 use Rattle.product.specs.Table.{Table}
-use Rattle.product.proofs.Lists.{and-left, and-right, both, or-left, or-right, or-cases, T-true}
+use Rattle.product.proofs.Lists.{and-left, and-right, both, or-left, or-right, or-cases}
 use Rattle.table.specs.declared.Size.{Size}
-use Rattle.table.specs.Cells.{view}
 use Rattle.bits.specs.Bit.{bit}
-use Rattle.bits.proofs.Bit.{bit-or, bit-xor, bit-zero, bit-past, bit-ext, xor}
+use Rattle.bits.proofs.Bit.{bit-or, bit-xor, bit-zero, xor}
 use Rattle.bits.proofs.Set.{bit-pow, one-shifted}
-use Rattle.bits.specs.Matrix.{entry, mat, mats, some, multiplied}
-use Rattle.bits.proofs.Matrix.{multiplied-at}
-use Rattle.bits.proofs.Some.{of-some, some-of, below-pow}
-use Rattle.decide.specs.Stamp.{Sort, of-heads, of-triples, viewOf, cellsOf, Became, Entries, alone, named, ranked, Inside, Stamps}
-use Rattle.decide.specs.Take.{Took, Room, Within, Fits}
-use Rattle.decide.proofs.Gathered.{mat-or}
+use Rattle.bits.specs.Matrix.{entry, mat, mats}
+use Rattle.bits.proofs.Some.{has-bit}
+use Rattle.decide.specs.Stamp.{Sort, of-heads, of-triples, viewOf, Became, Entries, alone, named, ranked, Inside, Stamps}
+use Rattle.decide.specs.Take.{Took, Room, Within, Fits, Gained}
+use Rattle.decide.proofs.Gathered.{mat-or, mat-none}
+use Rattle.decide.proofs.Members.{or-false}
 use Rattle.decide.proofs.Stamped.{Word, word, as-entry}
 
 -- an entry, with its row and column in range
@@ -174,19 +172,6 @@ module _ (s : Sort) (z : Size) (k g m : ℕ) (small : m < 2 ^ 64) (e ts : List �
   new-at : (q x : ℕ) → mat new q x ≡ mat m q x && not (mat old q x)
   new-at q x = ap (λ b. ltb q 8 && ltb x 8 && b) (new-bit (q * 8 + x)) ∙ spread (ltb q 8) (ltb x 8) (entry m q x) (entry old q x)
 
-  pub take-none : bitOr (getD e g 0) m ≡ getD e g 0 → Took s z k (alone g m) e ts 0 e ts
-  take-none same = took-none s z k (alone g m) e ts nothing
-    where
-      covered : (a b : Bool) → a || b ≡ a → T b → T a
-      covered true b x t = tt
-      covered false true x t = subst T x tt
-
-      nothing : (g′ q x : ℕ) → T (alone g m g′ q x) → T (mats e g′ q x)
-      nothing g′ q x t =
-          let i : g ≡ g′ = eqb→eq g g′ (and-left (eqb g g′) (mat m q x) t) in
-          subst (λ g. T (mats e g q x)) i
-          (covered (mat old q x) (mat m q x) (sym (mat-or old m q x) ∙ ap (λ n. mat n q x) same) (and-right (eqb g g′) (mat m q x) t))
-
   module _ (r : Room s z e ts) (f : Fits s z g m) where
     in-e : g < length e
     in-e = omega (arith, f .small, r .matrices)
@@ -200,41 +185,43 @@ module _ (s : Sort) (z : Size) (k g m : ℕ) (small : m < 2 ^ 64) (e ts : List �
     within : (i : ℕ) → T (bit new i) → (g < z .symbols) × Inside s z i
     within i t = let u = of-new i t in placed s i (f .inside (i / 8) (i % 8) (as-entry m i (word m small i u) u))
 
-    module _ (changed : bitOr (getD e g 0) m ≡ getD e g 0 → ⊥) where
-      -- some bit is new
+    entry-is : (g′ q x : ℕ) → Dec (g ≡ g′) → mats (set e g (bitOr (getD e g 0) m)) g′ q x ≡ mats e g′ q x || alone g m g′ q x
+    entry-is g′ q x (yes y) =
+        subst (λ g′. mats (set e g (bitOr (getD e g 0) m)) g′ q x ≡ mats e g′ q x || alone g m g′ q x) y
+        (rw (eq-eqb g g refl) (ap (λ n. mat n q x) (getD-set-same e g (bitOr old m) 0 in-e) ∙ mat-or old m q x))
+    entry-is g′ q x (no y) =
+        rw (ne-eqb g g′ y) (ap (λ n. mat n q x) (getD-set-other e g g′ (bitOr old m) 0 (λ v. y (sym v))) ∙ or-false (mats e g′ q x))
+
+    -- no bit is new
+    none-new : new ≡ 0 → Took s z k (alone g m) e ts 0 (set e g (bitOr (getD e g 0) m)) ts
+    none-new zero-new = record { as-long = length-set e g (bitOr old m); entries = λ g′ q x. entry-is g′ q x (ℕ-discrete g g′); table = t .table; quiet = t .quiet; fresh = t .fresh }
+      where
+        covered : (a b : Bool) → b && not a ≡ false → T b → T a
+        covered true b x u = tt
+        covered false true x u = subst T x tt
+
+        nothing : (g′ q x : ℕ) → T (alone g m g′ q x) → T (mats e g′ q x)
+        nothing g′ q x u =
+            subst (λ g. T (mats e g q x)) (eqb→eq g g′ (and-left (eqb g g′) (mat m q x) u))
+            (covered (mat old q x) (mat m q x) (sym (new-at q x) ∙ mat-none new q x zero-new) (and-right (eqb g g′) (mat m q x) u))
+
+        t : Took s z k (alone g m) e ts 0 e ts
+        t = took-none s z k (alone g m) e ts nothing
+
+    -- some bit is new
+    module _ (changed : new ≡ 0 → ⊥) where
       new-some : (i : ℕ) × T (bit new i)
-      new-some = go (some (old + m) (bit new)) refl
-        where
-          agree : (a b : Bool) → b && not a ≡ false → a || b ≡ a
-          agree true b x = refl
-          agree false false x = refl
-          agree false true x = absurd (subst T x tt)
+      new-some = has-bit new changed
 
-          wide-old : old < 2 ^ (old + m)
-          wide-old = omega (arith, below-pow (old + m))
-
-          wide-m : m < 2 ^ (old + m)
-          wide-m = omega (arith, below-pow (old + m))
-
-          go : (b : Bool) → some (old + m) (bit new) ≡ b → (i : ℕ) × T (bit new i)
-          go true x = let (i, _, t) = of-some (old + m) (bit new) (rw x tt) in (i, t)
-          go false x =
-              absurd (changed (bit-ext (old + m) (bitOr old m) old (or-lt (old + m) old m wide-old wide-m) wide-old λ i l.
-              bit-or old m i ∙ agree (bit old i) (bit m i) (sym (new-bit i) ∙ at i l (bit new i) refl)))
-            where
-              at : (i : ℕ) → i < old + m → (b : Bool) → bit new i ≡ b → b ≡ false
-              at i l false y = refl
-              at i l true y = absurd (subst T x (some-of (old + m) (bit new) i l (rw y tt)))
-
-      pub take-in : Stamps s z g (bitXor (bitOr (getD e g 0) m) (getD e g 0)) ts
-      take-in = record { long = r .long; symbol = let (i, t) = new-some in within i t .0; inside = λ i t. within i t .1 }
+      stamps-new : Stamps s z g (bitXor (bitOr (getD e g 0) m) (getD e g 0)) ts
+      stamps-new = record { long = r .long; symbol = let (i, t) = new-some in within i t .0; inside = λ i t. within i t .1 }
 
       set-bit : (x : ℕ) → bit ((1 * 2 ^ g) % 2 ^ 64) x ≡ eqb g x
       set-bit x = ap (λ n. bit n x) (one-shifted 64 g (omega (arith, f .small))) ∙ bit-pow g x
 
-      pub take-some : {ts′ : List ℕ} → Became s z ts (ranked k (named s (alone g (bitXor (bitOr (getD e g 0) m) (getD e g 0)))) (viewOf s z ts)) ts′
+      some-new : {ts′ : List ℕ} → Became s z ts (ranked k (named s (alone g (bitXor (bitOr (getD e g 0) m) (getD e g 0)))) (viewOf s z ts)) ts′
           → Took s z k (alone g m) e ts ((1 * 2 ^ g) % 2 ^ 64) (set e g (bitOr (getD e g 0) m)) ts′
-      take-some {ts′} b = record {
+      some-new {ts′} b = record {
         as-long = length-set e g (bitOr old m);
         entries = λ g′ q x. entry-is g′ q x (ℕ-discrete g g′);
         table = record { is = b .is ∙ fun-ext (at s); as-long = b .as-long; past = b .past };
@@ -242,17 +229,6 @@ module _ (s : Sort) (z : Size) (k g m : ℕ) (small : m < 2 ^ 64) (e ts : List �
         fresh = λ g′ t. witness g′ (eqb→eq g g′ (subst T (set-bit g′) t));
       }
         where
-          off : (b : Bool) → b ≡ b || false
-          off true = refl
-          off false = refl
-
-          entry-is : (g′ q x : ℕ) → Dec (g ≡ g′) → mats (set e g (bitOr (getD e g 0) m)) g′ q x ≡ mats e g′ q x || alone g m g′ q x
-          entry-is g′ q x (yes y) =
-              subst (λ g′. mats (set e g (bitOr (getD e g 0) m)) g′ q x ≡ mats e g′ q x || alone g m g′ q x) y
-              (rw (eq-eqb g g refl) (ap (λ n. mat n q x) (getD-set-same e g (bitOr old m) 0 in-e) ∙ mat-or old m q x))
-          entry-is g′ q x (no y) =
-              rw (ne-eqb g g′ y) (ap (λ n. mat n q x) (getD-set-other e g g′ (bitOr old m) 0 (λ v. y (sym v))) ∙ off (mats e g′ q x))
-
           one : (g′ q x : ℕ) → Dec (g ≡ g′) → alone g new g′ q x ≡ alone g m g′ q x && not (mats e g′ q x)
           one g′ q x (yes y) = subst (λ g′. alone g new g′ q x ≡ alone g m g′ q x && not (mats e g′ q x)) y (rw (eq-eqb g g refl) (new-at q x))
           one g′ q x (no y) = rw (ne-eqb g g′ y)
@@ -274,6 +250,23 @@ module _ (s : Sort) (z : Size) (k g m : ℕ) (small : m < 2 ^ 64) (e ts : List �
                 both (eqb g g′) (mat m (i / 8) (i % 8)) (subst⁻¹ T (eq-eqb g g′ y) tt) (and-left (mat m (i / 8) (i % 8)) (not (mat old (i / 8) (i % 8))) v),
                 subst (λ g. T (not (mats e g (i / 8) (i % 8)))) y (and-right (mat m (i / 8) (i % 8)) (not (mat old (i / 8) (i % 8))) v),
               )
+
+-- the same, by what the word gained
+module _ {s : Sort} {z : Size} (k : ℕ) {g m n : ℕ} {e e′ ts : List ℕ} (a : Gained e g m n e′) (r : Room s z e ts) (f : Fits s z g m) where
+  pub take-none : n ≡ 0 → Took s z k (alone g m) e ts 0 e′ ts
+  take-none x = subst⁻¹ (λ e′. Took s z k (alone g m) e ts 0 e′ ts) (a .held) (none-new s z k g m (a .small) e ts r f (sym (a .new-is) ∙ x))
+
+  module _ (x : n ≡ 0 → ⊥) where
+    some-bit : new s z k g m (a .small) e ts ≡ 0 → ⊥
+    some-bit y = x (a .new-is ∙ y)
+
+    pub take-in : Stamps s z g n ts
+    take-in = subst⁻¹ (λ d. Stamps s z g d ts) (a .new-is) (stamps-new s z k g m (a .small) e ts r f some-bit)
+
+    pub take-some : {ts′ : List ℕ} → Became s z ts (ranked k (named s (alone g n)) (viewOf s z ts)) ts′ → Took s z k (alone g m) e ts ((1 * 2 ^ g) % 2 ^ 64) e′ ts′
+    take-some {ts′} b =
+        subst⁻¹ (λ e′. Took s z k (alone g m) e ts ((1 * 2 ^ g) % 2 ^ 64) e′ ts′) (a .held)
+        (some-new s z k g m (a .small) e ts r f some-bit (subst (λ d. Became s z ts (ranked k (named s (alone g d)) (viewOf s z ts)) ts′) (a .new-is) b))
 
 -- the same entries by another name
 pub took-alike : {s : Sort} {z : Size} {k : ℕ} {m m′ : Entries} {e ts e′ ts′ : List ℕ} {w : ℕ} → ((g q x : ℕ) → m g q x ≡ m′ g q x)

@@ -1,17 +1,16 @@
 -- A round and the choice of the rules for the next. Assumes nothing.
 use mathlib.Core.Bool.{Bool, true, false, not, _&&_, _||_}
 use mathlib.Core.List.{List}
-use mathlib.Core.Logic.{_⊎_, inl, inr, ⊎-elim}
-use mathlib.Core.Path.{_≡_, refl, sym, ap, _∙_, subst, subst⁻¹}
-use Prim.Native.Nat.{ℕ, zero, suc, _+_, _<_, _≤_}
+use mathlib.Core.Logic.{_⊎_, ⊎-elim}
+use mathlib.Core.Path.{_≡_, refl, sym, ap, _∙_, subst}
+use Prim.Native.Nat.{ℕ, suc, _<_}
 use native.Mathlib.Omega.{arith}
 use lib.Bits.{bitOr}
 use lib.Dec.{T, T-not}
-use lib.ListN.{length, getD, replicate}
 use Rattle.product.specs.Lists.{any}
 use Rattle.product.specs.Product.{Product}
-use Rattle.product.specs.Facts.{Fact, head, triple, same, first, cells}
-use Rattle.product.specs.Rounds.{grown, held}
+use Rattle.product.specs.Facts.{Fact, head, triple, cells}
+use Rattle.product.specs.Rounds.{held}
 use Rattle.product.specs.Verdict.{adds}
 use Rattle.product.proofs.Lists.{and-left, and-right, both, or-cases, any-of}
 use Rattle.product.proofs.Lists
@@ -20,12 +19,13 @@ use Rattle.table.specs.declared.Size.{Size}
 use Rattle.bits.specs.Bit.{bit}
 use Rattle.bits.proofs.Bit.{bit-or, bit-zero}
 use Rattle.bits.proofs.Some.{has-bit}
-use Rattle.decide.specs.Standing.{Begins, Ends, RoundDone}
-use Rattle.decide.specs.Turn.{Collected, Uses, Turns, After, TurnDone}
+use Rattle.decide.specs.declared.Next.{Next}
+use Rattle.decide.specs.Standing.{Begins, Ends}
+use Rattle.decide.specs.Turn.{Uses, Chosen, After}
 use Rattle.decide.proofs.Choosing.{sets-next}
 
-module _ (p : Product) (z : Size) (n : ℕ) (wt wh rs sy tg by e hd hs ts : List ℕ) (b : Begins p z n wt wh rs sy tg by e hd hs ts)
-    (ce ch : ℕ) (by′ e′ hd′ hs′ ts′ : List ℕ) (s : Ends p z n rs sy tg hs ts ce ch by′ e′ hd′ hs′ ts′) where
+module _ {p : Product} {z : Size} {n : ℕ} {wt wh rs tg by e hd hs ts : List ℕ} (b : Begins p z n wt wh rs tg by e hd hs ts)
+    {ce ch : ℕ} {by′ e′ hd′ hs′ ts′ : List ℕ} (s : Ends p z n rs tg hs ts ce ch by′ e′ hd′ hs′ ts′) where
   pub triples-low : (g : ℕ) → T (bit ce g) → g < 32
   triples-low g t =
       let (q, x, a, _) = s .triples-fresh g t in
@@ -74,39 +74,20 @@ module _ (p : Product) (z : Size) (n : ℕ) (wt wh rs sy tg by e hd hs ts : List
           let (f, _, u) = Lists.some-of (λ f. not (held p n f) && held p (suc n) f) (cells p) (rw x tt) in
           absurd (T-not (held p n f) (and-left (not (held p n f)) (held p (suc n) f) u) (still f (and-right (not (held p n f)) (held p (suc n) f) u)))
 
-  module _ (us : List ℕ) (U : Uses p us) {wt′ wc wh′ : List ℕ}
-      (jt : Collected us 0 ce (replicate {A = ℕ} 4 0) wt′) (jc : Collected us 32 ce (replicate {A = ℕ} 4 0) wc) (jh : Collected us 64 ch wc wh′) where
-    pub after-turn : After p z n rs sy tg hs ts (bitOr ce ch) ch wt′ wh′ by′ e′ hd′ hs′ ts′
+  module _ {us : List ℕ} (U : Uses p us) {t : Next} (c : Chosen us ce ch t) where
+    pub after-turn : After p z n rs tg hs ts t by′ e′ hd′ hs′ ts′
     after-turn = record {
       begins = record {
         arrays = b .arrays;
         sets = sets-next p (b .arrays .in-range) (b .arrays .frame .few-rules) us U n ce ch triples-low heads-low
-            record { triples = s .triples-quiet; heads = s .heads-quiet } jt jc jh;
+            record { triples = s .triples-quiet; heads = s .heads-quiet } (c .triples) (c .returned) (c .heads);
         stored = s .stored;
         standing = s .standing;
       };
       triples-kept = s .triples-kept;
       heads-kept = s .heads-kept;
-      idle = idle;
-      busy = busy;
-      low = heads-low;
-      quiet = s .heads-quiet;
+      idle = λ x. idle (sym (c .more-is) ∙ x);
+      busy = λ x. busy (λ y. x (c .more-is ∙ y));
+      low = λ g u. heads-low g (subst (λ d. T (bit d g)) (c .changed-is) u);
+      quiet = λ q g u. s .heads-quiet q g (ap (λ d. bit d g) (sym (c .changed-is)) ∙ u);
     }
-
--- from what the functions say
-module _ (z : Size) (k : ℕ) (wt wh rs sy tg us by e hd hs ts : List ℕ) {ce ch : ℕ} {by′ nh′ e′ hd′ hs′ ts′ : List ℕ}
-    (s : RoundDone z k wt wh rs sy tg by e hd hs ts ce ch by′ nh′ e′ hd′ hs′ ts′) where
-  pub low-t : Turns z k wt wh rs sy tg us by e hd hs ts → (g : ℕ) → T (bit ce g) → g < 32
-  low-t (p, n, x, b, _) = triples-low p z n wt wh rs sy tg by e hd hs ts b ce ch by′ e′ hd′ hs′ ts′ (s .rounded p n x b)
-
-  pub low-h : Turns z k wt wh rs sy tg us by e hd hs ts → (g : ℕ) → T (bit ch g) → g < 32
-  low-h (p, n, x, b, _) = heads-low p z n wt wh rs sy tg by e hd hs ts b ce ch by′ e′ hd′ hs′ ts′ (s .rounded p n x b)
-
-  pub turn-done : {wt′ wc wh′ : List ℕ} → Collected us 0 ce (replicate {A = ℕ} 4 0) wt′ → Collected us 32 ce (replicate {A = ℕ} 4 0) wc → Collected us 64 ch wc wh′
-      → TurnDone z k wt wh rs sy tg us by e hd hs ts (bitOr ce ch) ch wt′ wh′ by′ nh′ e′ hd′ hs′ ts′
-  turn-done jt jc jh = record {
-    turned = λ p n x b U. after-turn p z n wt wh rs sy tg by e hd hs ts b ce ch by′ e′ hd′ hs′ ts′ (s .rounded p n x b) us U jt jc jh;
-    empty = s .empty;
-    heads-long = s .heads-long;
-    triples-long = s .triples-long;
-  }

@@ -1,24 +1,19 @@
--- What the rounds are run on: the rules by what they need, the exits, and the symbols of the classes. What serves the decision's own functions. Assumes nothing.
+-- What the rounds are run on: the rules by what they need, the rules of the first round, and what is looked for. What serves the decision's own functions. Assumes nothing.
 use mathlib.Core.Bool.{Bool, _&&_, _||_}
 use mathlib.Core.List.{List}
 use mathlib.Core.Logic.{_⊎_}
 use mathlib.Core.Path.{_≡_}
-use Prim.Native.Nat.{ℕ, _%_, _<_}
+use Prim.Native.Nat.{ℕ, _*_, _%_, _^_, _<_}
 use lib.Dec.{T, eqb, ltb}
-use lib.ListN.{length, getD}
-use Rattle.product.specs.Product.{Rule}
+use lib.ListN.{length}
+use Rattle.bits.specs.Bit.{bit}
+use Rattle.model.specs.declared.Shape.{Shape}
+use Rattle.decide.specs.declared.Goal.{Goal}
+use Rattle.decide.specs.declared.Next.{Next}
 use Rattle.decide.specs.Sets.{member, chosen}
-use Rattle.decide.specs.Gather.{kindAt, classAt, overAt, underAt}
-use Rattle.decide.specs.Frame.{ruleBy}
-use Rattle.decide.specs.Turn.{UsesOf}
-
--- each of the first n classes is its symbol
-abbrev pub SameSymbols : ℕ → List ℕ → Type 0
-SameSymbols n sy = (c : ℕ) → c < n → getD sy c 0 ≡ c
-
--- the rule of row r, where its class is its symbol
-abbrev pub rowRule : List ℕ → ℕ → Rule
-rowRule rs r = ruleBy (kindAt rs r) (classAt rs r % 32) (overAt rs r) (underAt rs r)
+use Rattle.decide.specs.Gather.{kindAt, zeros}
+use Rattle.decide.specs.Frame.{rowRule}
+use Rattle.decide.specs.Turn.{UsesOf, Collected}
 
 -- rule r was put into the sets of what it needs, and no other rule into any; and the first n rules
 pub record UsesPut (rs : List ℕ) (r : ℕ) (us us′ : List ℕ) : Type 0 where
@@ -49,3 +44,17 @@ pub record RulePut (rs : List ℕ) (r : ℕ) (us w us′ w′ : List ℕ) : Type
 pub record RulesSorted (rs : List ℕ) (n : ℕ) (us w : List ℕ) : Type 0 where
   pub uses : UsesAll rs n us
   pub exits : Exits rs n w
+
+-- the rules of the first round: the exits, and those that need the head of the start symbol g
+pub record First (rs : List ℕ) (n g : ℕ) (us : List ℕ) (t : Next) : Type 0 where
+  pub uses : UsesAll rs n us
+  pub more-is : t .more ≡ 1
+  pub changed-is : t .changed ≡ (1 * 2 ^ g) % 2 ^ 64
+  pub exits : Exits rs n (t .wt)
+  pub heads : Collected us 64 (t .changed) (zeros 4) (t .wh)
+
+-- the final states, and the start
+pub record GoalOf (s : Shape) (final : ℕ → Bool) (goal : Goal) : Type 0 where
+  pub finals-are : (x : ℕ) → bit (goal .finals) x ≡ ltb x 8 && final x
+  pub state-is : goal .state ≡ s .startstate
+  pub symbol-is : goal .symbol ≡ s .startsymbol

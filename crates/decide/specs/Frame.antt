@@ -1,29 +1,30 @@
--- The arrays that a product is held in: its rules in rows, and for each class its symbol and the matrix of its steps. What serves the decision's own functions. Assumes nothing.
-use mathlib.Core.Bool.{Bool}
+-- The arrays that a product is held in: its rules in rows, and for each class the matrix of its steps. What serves the decision's own functions. Assumes nothing.
 use mathlib.Core.List.{List}
 use mathlib.Core.Path.{_≡_}
-use Prim.Native.Nat.{ℕ, zero, suc, _/_, _%_, _<_, _≤_}
+use Prim.Native.Nat.{ℕ, zero, suc, _<_, _≤_}
 use lib.Dec.{T}
-use lib.ListN.{getD}
 use Rattle.product.specs.Lists.{upTo}
 use Rattle.product.specs.Product.{Rule, exit, direct, call, Product}
-use Rattle.bits.specs.Bit.{bit}
 use Rattle.bits.specs.Matrix.{mats}
 use Rattle.relations.specs.Relations.{steps}
+use Rattle.steps.specs.Steps.{symbolOf}
 use Rattle.decide.specs.Gather.{kindAt, classAt, overAt, underAt}
-use Rattle.decide.specs.Take.{symbolAt}
 
 abbrev pub ruleBy : (kind g g1 g2 : ℕ) → Rule
 ruleBy zero g g1 g2 = exit g
 ruleBy (suc zero) g g1 g2 = direct g g1
 ruleBy (suc (suc k)) g g1 g2 = call g g1 g2
 
+-- the rule of row r
+abbrev pub rowRule : List ℕ → ℕ → Rule
+rowRule rs r = ruleBy (kindAt rs r) (symbolOf (classAt rs r)) (overAt rs r) (underAt rs r)
+
 -- for Q states
-pub record Frame (p : Product) (Q : ℕ) (rs sy tg : List ℕ) : Type 0 where
+pub record Frame (p : Product) (Q : ℕ) (rs tg : List ℕ) : Type 0 where
   pub few-states : Q ≤ 8
   pub few-rules : p .rules ≤ 256
   pub states-are : p .states ≡ upTo Q
-  pub rules-are : (r : ℕ) → r < p .rules → p .rule r ≡ ruleBy (kindAt rs r) (symbolAt sy (classAt rs r)) (overAt rs r) (underAt rs r)
+  pub rules-are : (r : ℕ) → r < p .rules → p .rule r ≡ rowRule rs r
   pub class-in : (r : ℕ) → r < p .rules → classAt rs r < 256
   pub steps-are : (r q q′ : ℕ) → r < p .rules → steps p r q q′ ≡ mats tg (classAt rs r) q q′
   pub steps-in : (c q q′ : ℕ) → T (mats tg c q q′) → (q < Q) × (q′ < Q)

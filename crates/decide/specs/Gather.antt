@@ -1,11 +1,12 @@
 -- What is run after the steps of the rules of a set, gathered by class. What serves the decision's own functions. Assumes nothing.
-use mathlib.Core.Bool.{Bool, false, cond, _&&_, _||_}
+use mathlib.Core.Bool.{false, cond, _&&_, _||_}
 use mathlib.Core.List.{List}
 use mathlib.Core.Path.{_≡_}
-use Prim.Native.Nat.{ℕ, _+_, _*_, _%_}
+use Prim.Native.Nat.{ℕ, _+_, _*_, _%_, _<_}
 use lib.Dec.{eqb}
-use lib.ListN.{length, getD}
+use lib.ListN.{length, getD, replicate}
 use Rattle.bits.specs.Matrix.{mat, mats, multiplied}
+use Rattle.decide.specs.declared.rows.Row.{Row}
 use Rattle.decide.specs.Sets.{chosen, among}
 use Rattle.decide.specs.Stamp.{Entries}
 
@@ -27,6 +28,16 @@ overAt rs i = getD rs (4 * i + 2) 0 % 32
 
 abbrev pub underAt : List ℕ → ℕ → ℕ
 underAt rs i = getD rs (4 * i + 3) 0 % 32
+
+-- the row of rule i was read
+pub record RowAt (rs : List ℕ) (i : ℕ) (r : Row) : Type 0 where
+  pub kind-is : r .kind ≡ kindAt rs i
+  pub class-is : r .class ≡ classAt rs i
+  pub over-is : r .over ≡ overAt rs i
+  pub under-is : r .under ≡ underAt rs i
+  pub class-in : r .class < 256
+  pub over-in : r .over < 32
+  pub under-in : r .under < 32
 
 unfoldable pub restAt : List ℕ → List ℕ → ℕ → ℕ
 restAt rs e i = restOf (kindAt rs i) (overAt rs i) (underAt rs i) e
@@ -52,7 +63,10 @@ pub record Gains (m : Entries) (by t′ by′ : List ℕ) : Type 0 where
   pub entries : (c q x : ℕ) → mats by′ c q x ≡ mats by c q x || m c q x
   pub same : (c : ℕ) → chosen t′ c ≡ false → getD by′ c 0 ≡ getD by c 0
 
--- all are empty
+-- all are empty, as at first
+abbrev pub zeros : ℕ → List ℕ
+zeros n = replicate {A = ℕ} n 0
+
 pub record Empty (n : ℕ) (by : List ℕ) : Type 0 where
   pub long : length by ≡ n
   pub empty : (c : ℕ) → getD by c 0 ≡ 0

@@ -9,10 +9,15 @@ use Rattle.product.specs.Verdict as product
 use Rattle.table.specs.declared.Size.{Size}
 use Rattle.table.specs.Cells.{headsOf, triplesOf, putHead, cleared}
 use Rattle.model.specs.declared.Model.{Model}
+use Rattle.model.specs.declared.Shape.{Shape}
 use Rattle.model.specs.Model.{productOf}
 use Rattle.model.specs.Valid.{valid}
 use Rattle.decide.specs.declared.Decision.{Decision}
 use Rattle.decide.specs.Decided.{meaning, within, headCount, tripleCount}
+
+-- what a model says beside its arrays
+abbrev pub shapeOf : Model → Shape
+shapeOf m = record { symbols = m .symbols; states = m .states; events = m .events; startstate = m .startstate; startsymbol = m .startsymbol; rules = m .rules; moves = m .moves }
 
 -- the model is valid, and the arrays are long enough for its table
 pub record Able (m : Model) (hs ts : List ℕ) : Type 0 where

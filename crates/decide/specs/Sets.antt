@@ -2,7 +2,7 @@
 use mathlib.Core.Bool.{Bool, false, not, _&&_, _||_}
 use mathlib.Core.List.{List}
 use mathlib.Core.Path.{_≡_}
-use Prim.Native.Nat.{ℕ, _+_, _*_, _/_, _%_, _<_, _≤_}
+use Prim.Native.Nat.{ℕ, _+_, _*_, _/_, _%_, _<_}
 use lib.Dec.{T, eqb}
 use lib.ListN.{length, getD}
 use Rattle.bits.specs.Bit.{bit}
@@ -34,6 +34,11 @@ pub record Picked (w : List ℕ) (r : ℕ) (w′ : List ℕ) : Type 0 where
   pub less : r < 256 → weight w′ < weight w
   pub rest : r < 256 → (x : ℕ) → chosen w′ x ≡ chosen w x && not (eqb x r)
   pub none : (r < 256 → ⊥) → (x : ℕ) → chosen w x ≡ false
+
+-- the same of word k alone
+pub record PickedIn (w : List ℕ) (k r : ℕ) (w′ : List ℕ) : Type 0 where
+  pub some : r < 256 → Picked w r w′
+  pub none : (r < 256 → ⊥) → (w′ ≡ w) × (getD w k 0 ≡ 0)
 
 -- the set with those of set number s
 pub record Joined (w l : List ℕ) (s : ℕ) (w′ : List ℕ) : Type 0 where

@@ -1,8 +1,8 @@
 -- What stands in the matrices and in the arrays after a round, and what a round asks and leaves. What serves the decision's own functions. Assumes nothing.
-use mathlib.Core.Bool.{Bool, false, not}
+use mathlib.Core.Bool.{false, not}
 use mathlib.Core.List.{List}
 use mathlib.Core.Path.{_≡_}
-use Prim.Native.Nat.{ℕ, suc, _<_, _≤_}
+use Prim.Native.Nat.{ℕ, suc, _<_}
 use lib.Dec.{T}
 use lib.ListN.{length, drop}
 use Rattle.product.specs.Product.{Product, InRange}
@@ -13,11 +13,12 @@ use Rattle.table.specs.declared.Size.{Size}
 use Rattle.bits.specs.Bit.{bit}
 use Rattle.bits.specs.Matrix.{mats}
 use Rattle.relations.specs.Quiet.{Enough}
+use Rattle.steps.specs.Steps.{symbolOf}
 use Rattle.decide.specs.Stamp.{Sort, of-heads, of-triples, viewOf, cellsOf}
-use Rattle.decide.specs.Take.{Room, symbolAt}
+use Rattle.decide.specs.Take.{Room}
 use Rattle.decide.specs.Sets.{chosen}
 use Rattle.relations.specs.Relations.{rest}
-use Rattle.decide.specs.Gather.{classAt, Empty}
+use Rattle.decide.specs.Gather.{classAt}
 use Rattle.decide.specs.Frame.{Frame}
 
 -- after round n: the facts held in the matrices e and the rows hd, and their ranks in the two arrays
@@ -30,16 +31,16 @@ pub record Standing (p : Product) (z : Size) (n : ℕ) (e hd hs ts : List ℕ) :
   pub heads-room : Room of-heads z hd hs
 
 -- the product in its arrays
-pub record Held (p : Product) (z : Size) (rs sy tg : List ℕ) : Type 0 where
+pub record Held (p : Product) (z : Size) (rs tg : List ℕ) : Type 0 where
   pub in-range : InRange p
-  pub frame : Frame p (z .states) rs sy tg
+  pub frame : Frame p (z .states) rs tg
   pub symbols-are : z .symbols ≡ p .symbols
 
 -- What is run after the steps of the rules of a class, as far as it was gathered: some rule of the class has it, and it has gone through the steps of the class.
-pub record Stored (p : Product) (n : ℕ) (rs sy tg by : List ℕ) : Type 0 where
+pub record Stored (p : Product) (n : ℕ) (rs tg by : List ℕ) : Type 0 where
   pub long : length by ≡ 256
   pub sound : (c k x : ℕ) → T (mats by c k x) → (r : ℕ) × (r < p .rules) × (classAt rs r ≡ c) × T (rest (p .states) (held p n) (p .rule r) k x)
-  pub settled : (c q k x : ℕ) → T (mats tg c q k) → T (mats by c k x) → T (held p n (triple q (symbolAt sy c) x))
+  pub settled : (c q k x : ℕ) → T (mats tg c q k) → T (mats by c k x) → T (held p n (triple q (symbolOf c) x))
 
 -- the sets wt and wh name rules of the product, and enough of them for the round after n
 pub record Sets (p : Product) (n : ℕ) (wt wh : List ℕ) : Type 0 where
@@ -49,14 +50,11 @@ pub record Sets (p : Product) (n : ℕ) (wt wh : List ℕ) : Type 0 where
   pub heads-only : (r : ℕ) → T (chosen wh r) → r < p .rules
   pub enough : Enough p (chosen wt) (chosen wh) (held p n)
 
-pub record Begins (p : Product) (z : Size) (n : ℕ) (wt wh rs sy tg by e hd hs ts : List ℕ) : Type 0 where
-  pub arrays : Held p z rs sy tg
+pub record Begins (p : Product) (z : Size) (n : ℕ) (wt wh rs tg by e hd hs ts : List ℕ) : Type 0 where
+  pub arrays : Held p z rs tg
   pub sets : Sets p n wt wh
-  pub stored : Stored p n rs sy tg by
+  pub stored : Stored p n rs tg by
   pub standing : Standing p z n e hd hs ts
-
-abbrev pub Ready : (z : Size) → (k : ℕ) → (wt wh rs sy tg by e hd hs ts : List ℕ) → Type 0
-Ready z k wt wh rs sy tg by e hd hs ts = (p : Product) × (n : ℕ) × (k ≡ suc n) × Begins p z n wt wh rs sy tg by e hd hs ts
 
 -- as long as before, and the same past the table
 pub record Kept (s : Sort) (z : Size) (xs xs′ : List ℕ) : Type 0 where
@@ -64,23 +62,12 @@ pub record Kept (s : Sort) (z : Size) (xs xs′ : List ℕ) : Type 0 where
   pub past : drop (cellsOf s z) xs′ ≡ drop (cellsOf s z) xs
 
 -- the round after n; ce and ch are the sets of the symbols whose triples and heads changed
-pub record Ends (p : Product) (z : Size) (n : ℕ) (rs sy tg hs ts : List ℕ) (ce ch : ℕ) (by′ e′ hd′ hs′ ts′ : List ℕ) : Type 0 where
+pub record Ends (p : Product) (z : Size) (n : ℕ) (rs tg hs ts : List ℕ) (ce ch : ℕ) (by′ e′ hd′ hs′ ts′ : List ℕ) : Type 0 where
   pub standing : Standing p z (suc n) e′ hd′ hs′ ts′
-  pub stored : Stored p (suc n) rs sy tg by′
+  pub stored : Stored p (suc n) rs tg by′
   pub triples-kept : Kept of-triples z ts ts′
   pub heads-kept : Kept of-heads z hs hs′
   pub triples-quiet : (q g x : ℕ) → bit ce g ≡ false → T (held p (suc n) (triple q g x)) → T (held p n (triple q g x))
   pub heads-quiet : (q g : ℕ) → bit ch g ≡ false → T (held p (suc n) (head q g)) → T (held p n (head q g))
   pub triples-fresh : (g : ℕ) → T (bit ce g) → (q : ℕ) × (x : ℕ) × T (held p (suc n) (triple q g x)) × T (not (held p n (triple q g x)))
   pub heads-fresh : (g : ℕ) → T (bit ch g) → (q : ℕ) × T (held p (suc n) (head q g)) × T (not (held p n (head q g)))
-
-abbrev pub Rounded : (z : Size) → (k : ℕ) → (wt wh rs sy tg by e hd hs ts : List ℕ) → (ce ch : ℕ) → (by′ e′ hd′ hs′ ts′ : List ℕ) → Type 0
-Rounded z k wt wh rs sy tg by e hd hs ts ce ch by′ e′ hd′ hs′ ts′ =
-    (p : Product) (n : ℕ) → k ≡ suc n → Begins p z n wt wh rs sy tg by e hd hs ts → Ends p z n rs sy tg hs ts ce ch by′ e′ hd′ hs′ ts′
-
--- nh is empty before a round and after it
-pub record RoundDone (z : Size) (k : ℕ) (wt wh rs sy tg by e hd hs ts : List ℕ) (ce ch : ℕ) (by′ nh′ e′ hd′ hs′ ts′ : List ℕ) : Type 0 where
-  pub rounded : Rounded z k wt wh rs sy tg by e hd hs ts ce ch by′ e′ hd′ hs′ ts′
-  pub empty : Empty 32 nh′
-  pub heads-long : length hs′ ≡ length hs
-  pub triples-long : length ts′ ≡ length ts

@@ -4,6 +4,7 @@ use mathlib.Core.List.{List}
 use mathlib.Core.Path.{_≡_}
 use Prim.Native.Nat.{ℕ, suc, _+_, _<_}
 use lib.Dec.{T}
+use lib.Bits.{bitOr}
 use lib.ListN.{length}
 use Rattle.product.specs.Product.{Rule, exit, direct, call, Product}
 use Rattle.product.specs.Facts.{head}
@@ -12,9 +13,10 @@ use Rattle.product.specs.Verdict.{adds}
 use Rattle.table.specs.declared.Size.{Size}
 use Rattle.bits.specs.Bit.{bit}
 use Rattle.bits.specs.Matrix.{some}
+use Rattle.decide.specs.declared.Next.{Next}
 use Rattle.decide.specs.Sets.{member, chosen}
+use Rattle.decide.specs.Gather.{zeros}
 use Rattle.decide.specs.Stamp.{of-heads, of-triples}
-use Rattle.decide.specs.Gather.{Empty}
 use Rattle.decide.specs.Standing.{Begins, Kept}
 
 -- r stands in one of the sets from number `from` on, those of the symbols that changed
@@ -36,21 +38,21 @@ pub record Uses (p : Product) (us : List ℕ) : Type 0 where
   pub there : (r : ℕ) → r < p .rules → UsesOf us r (p .rule r)
   pub only : (s r : ℕ) → r < 256 → T (member us s r) → r < p .rules
 
-abbrev pub Turns : (z : Size) → (k : ℕ) → (wt wh rs sy tg us by e hd hs ts : List ℕ) → Type 0
-Turns z k wt wh rs sy tg us by e hd hs ts = (p : Product) × (n : ℕ) × (k ≡ suc n) × Begins p z n wt wh rs sy tg by e hd hs ts × Uses p us
+-- the rules that need what changed, by the symbols ce of new triples and ch of new heads; `more` is 0 if there are none
+pub record Chosen (us : List ℕ) (ce ch : ℕ) (t : Next) : Type 0 where
+  pub more-is : t .more ≡ bitOr ce ch
+  pub changed-is : t .changed ≡ ch
+  pub triples : Collected us 0 ce (zeros 4) (t .wt)
+  pub by-triples : List ℕ
+  pub returned : Collected us 32 ce (zeros 4) by-triples
+  pub heads : Collected us 64 ch by-triples (t .wh)
 
 -- What stands after round n + 1, with enough rules for the next. `more` is 0 exactly if the round added nothing; `changed` has the symbols with a new head.
-pub record After (p : Product) (z : Size) (n : ℕ) (rs sy tg hs ts : List ℕ) (more changed : ℕ) (wt′ wh′ by′ e′ hd′ hs′ ts′ : List ℕ) : Type 0 where
-  pub begins : Begins p z (suc n) wt′ wh′ rs sy tg by′ e′ hd′ hs′ ts′
+pub record After (p : Product) (z : Size) (n : ℕ) (rs tg hs ts : List ℕ) (t : Next) (by′ e′ hd′ hs′ ts′ : List ℕ) : Type 0 where
+  pub begins : Begins p z (suc n) (t .wt) (t .wh) rs tg by′ e′ hd′ hs′ ts′
   pub triples-kept : Kept of-triples z ts ts′
   pub heads-kept : Kept of-heads z hs hs′
-  pub idle : more ≡ 0 → T (not (adds p (suc n)))
-  pub busy : (more ≡ 0 → ⊥) → T (adds p (suc n))
-  pub low : (g : ℕ) → T (bit changed g) → g < 32
-  pub quiet : (q g : ℕ) → bit changed g ≡ false → T (held p (suc n) (head q g)) → T (held p n (head q g))
-
-pub record TurnDone (z : Size) (k : ℕ) (wt wh rs sy tg us by e hd hs ts : List ℕ) (more changed : ℕ) (wt′ wh′ by′ nh′ e′ hd′ hs′ ts′ : List ℕ) : Type 0 where
-  pub turned : (p : Product) (n : ℕ) → k ≡ suc n → Begins p z n wt wh rs sy tg by e hd hs ts → Uses p us → After p z n rs sy tg hs ts more changed wt′ wh′ by′ e′ hd′ hs′ ts′
-  pub empty : Empty 32 nh′
-  pub heads-long : length hs′ ≡ length hs
-  pub triples-long : length ts′ ≡ length ts
+  pub idle : t .more ≡ 0 → T (not (adds p (suc n)))
+  pub busy : (t .more ≡ 0 → ⊥) → T (adds p (suc n))
+  pub low : (g : ℕ) → T (bit (t .changed) g) → g < 32
+  pub quiet : (q g : ℕ) → bit (t .changed) g ≡ false → T (held p (suc n) (head q g)) → T (held p n (head q g))

@@ -8,19 +8,21 @@ ghost use Rattle.bits.specs.Bit.{bit};
 ghost use Rattle.decide.specs.Stamp.{of-heads, alone};
 ghost use Rattle.decide.specs.Gather.{classAt, Empty};
 ghost use Rattle.decide.specs.Take.{Took, Room, Fits};
-ghost use Rattle.decide.specs.Show.{landing, shown, shownAll, Shows, RowsCover, ShowsAll, RowsFit, SettlesRows};
+ghost use Rattle.decide.specs.Show.{landing, shown, shownAll, Shows, RowsCover, ShowsAll, RowsFit, SettlesRows, HeadsReady, HeadsDone};
+use crate::rows::row_at;
+use crate::sets::gain;
 use crate::sets::pick;
 use crate::stamps::stamp_heads;
-use crate::triples::low;
+use lent::Lent;
 use table::Size;
 
 // The states in which the steps of rule i end, from the heads of its symbol.
-fn land(i: usize, rules: &[u8; 1024], sy: &[u8; 256], tg: &[u64; 256], hd: &[u64; 32]) -> u64
+fn land(i: usize, rules: &Lent, tg: &[u64; 256], hd: &[u64; 32]) -> u64
     requires { ⌜ i < 256 ⌝ }
-    ensures { λ v. ⌜ v ≡ landing (now (sy .entry)) (now (tg .entry)) (now (hd .entry)) (classAt (now (rules .entry)) i) ⌝ }
+    ensures { λ v. ⌜ v ≡ landing (now (tg .entry)) (now (hd .entry)) (classAt (now (rules .entry)) i) ⌝ }
 {
     let c = steps::class_of(rules, i);
-    let g = low(sy[c]);
+    let g = steps::symbol_of(c);
     steps::states_after(rules, tg, i, hd[g])
 }
 
@@ -37,8 +39,7 @@ fn add_row(g: usize, v: u64, nh: &mut [u64; 32]) -> u64
 // Rule i adds the heads that it gives. Answers the set of the symbols whose row it wrote.
 fn show(
     i: usize,
-    rules: &[u8; 1024],
-    sy: &[u8; 256],
+    rules: &Lent,
     tg: &[u64; 256],
     e: &[u64; 32],
     hd: &[u64; 32],
@@ -46,34 +47,32 @@ fn show(
 ) -> u64
     requires { ⌜ i < 256 ⌝ }
     requires { ⌜ length (now nh) ≡ 32 ⌝ }
-    ensures { λ t. ⌜ Shows (shown (now (rules .entry)) (now (sy .entry)) (now (tg .entry)) (now (e .entry)) (now (hd .entry)) i) (now (nh .entry)) t (now (nh .exit)) ⌝ }
+    ensures { λ t. ⌜ Shows (shown (now (rules .entry)) (now (tg .entry)) (now (e .entry)) (now (hd .entry)) i) (now (nh .entry)) t (now (nh .exit)) ⌝ }
 {
-    let kind = rules[4 * i];
-    if kind == 0 {
+    let row = row_at(rules, i);
+    if row.kind == 0 {
         return 0;
     }
-    let v = land(i, rules, sy, tg, hd);
+    let v = land(i, rules, tg, hd);
     if v == 0 {
         return 0; // no head is passed on
     }
-    let g1 = low(rules[4 * i + 2]);
+    let g1 = row.over;
     let t = add_row(g1, v, nh);
-    if kind == 1 {
+    if row.kind == 1 {
         return t;
     }
     let back = e[g1];
     if back == 0 {
         return t; // nothing is returned to
     }
-    let g2 = low(rules[4 * i + 3]);
-    t | add_row(g2, bits::through(v, back), nh)
+    t | add_row(row.under, bits::through(v, back), nh)
 }
 
 // The rules of a set.
-pub(crate) fn show_all(
+fn show_all(
     set: [u64; 4],
-    rules: &[u8; 1024],
-    sy: &[u8; 256],
+    rules: &Lent,
     tg: &[u64; 256],
     e: &[u64; 32],
     hd: &[u64; 32],
@@ -81,7 +80,7 @@ pub(crate) fn show_all(
 ) -> u64
     requires { ⌜ length set ≡ 4 ⌝ }
     requires { ⌜ Empty 32 (now nh) ⌝ }
-    ensures { λ t. ⌜ ShowsAll (shownAll (now (rules .entry)) (now (sy .entry)) (now (tg .entry)) (now (e .entry)) (now (hd .entry)) set) t (now (nh .exit)) ⌝ }
+    ensures { λ t. ⌜ ShowsAll (shownAll (now (rules .entry)) (now (tg .entry)) (now (e .entry)) (now (hd .entry)) set) t (now (nh .exit)) ⌝ }
 {
     let mut left = set;
     let mut touched: u64 = 0;
@@ -90,7 +89,7 @@ pub(crate) fn show_all(
         if 256 <= i {
             return touched;
         }
-        touched = touched | show(i, rules, sy, tg, e, hd, nh);
+        touched = touched | show(i, rules, tg, e, hd, nh);
     }
 }
 
@@ -100,18 +99,16 @@ fn take_heads(size: Size, g: usize, m: u64, k: u16, hd: &mut [u64; 32], heads: &
     requires { ⌜ Fits of-heads size g m ⌝ }
     ensures { λ w. ⌜ Took of-heads size k (alone g m) (now (hd .entry)) (now (heads .entry)) w (now (hd .exit)) (now (heads .exit)) ⌝ }
 {
-    let old = hd[g];
-    let all = old | m;
-    if all == old {
+    let new = gain(hd, g, m);
+    if new == 0 {
         return 0;
     }
-    hd[g] = all;
-    stamp_heads(heads, size, g, all ^ old, k);
+    stamp_heads(heads, size, g, new, k);
     1u64 << (g as u64)
 }
 
 // The symbols of a set take in their rows, which are then empty again. Answers the set of the symbols that changed.
-pub(crate) fn settle_heads(
+fn settle_heads(
     size: Size,
     touched: u64,
     k: u16,
@@ -133,4 +130,24 @@ pub(crate) fn settle_heads(
         nh[g] = 0;
     }
     changed
+}
+
+// The heads of round k, by the rules of a set. The rows nh are empty before and after. Answers the set of the symbols that changed.
+pub(crate) fn round_heads(
+    size: Size,
+    k: u16,
+    set: [u64; 4],
+    rules: &Lent,
+    tg: &[u64; 256],
+    e: &[u64; 32],
+    nh: &mut [u64; 32],
+    hd: &mut [u64; 32],
+    heads: &mut [u16],
+) -> u64
+    requires { ⌜ HeadsReady size set (now rules) (now tg) (now e) (now hd) (now heads) ⌝ }
+    requires { ⌜ Empty 32 (now nh) ⌝ }
+    ensures { λ w. ⌜ HeadsDone size k set (now (rules .entry)) (now (tg .entry)) (now (e .entry)) (now (hd .entry)) (now (heads .entry)) w (now (nh .exit)) (now (hd .exit)) (now (heads .exit)) ⌝ }
+{
+    let touched = show_all(set, rules, tg, e, hd, nh);
+    settle_heads(size, touched, k, nh, hd, heads)
 }

@@ -3,11 +3,13 @@ use mathlib.Core.Bool.{true}
 use mathlib.Core.List.{List}
 use Prim.Native.Nat.{ℕ, _+_, _*_}
 use lib.Dec.{eqb}
-use lib.ListN.{getD, set}
+use lib.ListN.{set}
 use Rattle.text.specs.Split.{pick}
-use Rattle.line.specs.declared.Line.{Line}
-use Rattle.line.specs.declared.Word.{Word}
-use Rattle.line.specs.declared.Word.the-variants.{Size, Start, Final, Event, Exit, Direct, Call, Move, Safe, Head, Erase, Malformed}
+use Rattle.numbers.specs.Number.{nth}
+use Rattle.numbers.specs.declared.Numbers.{Numbers}
+use Rattle.modelline.specs.declared.Line.{Line}
+use Rattle.modelline.specs.declared.Word.{Word}
+use Rattle.modelline.specs.declared.Word.the-variants.{Size, Start, Final, Event, Exit, Direct, Call, Move, Unknown}
 use Rattle.limits.specs.declared.Counts.{Counts}
 use Rattle.limits.specs.Limits.{refusal, tests}
 use Rattle.model.specs.declared.Model.{Model}
@@ -122,47 +124,45 @@ withMove m q e q′ = record {
   moverows = threeAt (m .moverows) (m .moves * 3) q e q′;
 }
 
-abbrev pub sizeLine : Draft → (g q e : ℕ) → Draft
-sizeLine d g q e = record { started = d .started; model = withSize (d .model) g q e }
+-- `size` symbols states events
+abbrev pub sizeLine : Draft → Numbers → Draft
+sizeLine d n = record { started = d .started; model = withSize (d .model) (nth n 0) (nth n 1) (nth n 2) }
 
-abbrev pub startLine : Draft → (q g : ℕ) → Draft
-startLine d q g = record { started = 1; model = withStart (d .model) q g }
+-- `start` state symbol
+abbrev pub startLine : Draft → Numbers → Draft
+startLine d n = record { started = 1; model = withStart (d .model) (nth n 0) (nth n 1) }
 
-abbrev pub finalLine : Draft → (q : ℕ) → Draft
-finalLine d q = record { started = d .started; model = withFinal (d .model) q }
+-- `final` state
+abbrev pub finalLine : Draft → Numbers → Draft
+finalLine d n = record { started = d .started; model = withFinal (d .model) (nth n 0) }
 
--- event 0 too is set: it is shown with or without a line
-abbrev pub eventLine : Draft → (g e : ℕ) → Draft
-eventLine d g e = record { started = d .started; model = withEvent (d .model) g e }
+-- `event` symbol event: event 0 too is set, which is shown with or without a line
+abbrev pub eventLine : Draft → Numbers → Draft
+eventLine d n = record { started = d .started; model = withEvent (d .model) (nth n 0) (nth n 1) }
 
--- a rule of kind 0, 1 or 2; the symbols that its kind does not push are 0
-abbrev pub ruleLine : Draft → (kind g g1 g2 : ℕ) → Draft
-ruleLine d kind g g1 g2 = record { started = d .started; model = withRule (d .model) kind g g1 g2 }
+-- a rule of kind 0, 1 or 2; the symbols that its line does not have are 0
+abbrev pub ruleLine : (kind : ℕ) → Draft → Numbers → Draft
+ruleLine kind d n = record { started = d .started; model = withRule (d .model) kind (nth n 0) (nth n 1) (nth n 2) }
 
-abbrev pub moveLine : Draft → (q e q′ : ℕ) → Draft
-moveLine d q e q′ = record { started = d .started; model = withMove (d .model) q e q′ }
+-- `move` state event state
+abbrev pub moveLine : Draft → Numbers → Draft
+moveLine d n = record { started = d .started; model = withMove (d .model) (nth n 0) (nth n 1) (nth n 2) }
 
--- the draft after a line that is not refused, by its word and its first three numbers
-abbrev pub after : Draft → Word → (a b c : ℕ) → Draft
-after d Size a b c = sizeLine d a b c
-after d Start a b c = startLine d a b
-after d Final a b c = finalLine d a
-after d Event a b c = eventLine d a b
-after d Exit a b c = ruleLine d 0 a 0 0
-after d Direct a b c = ruleLine d 1 a b 0
-after d Call a b c = ruleLine d 2 a b c
-after d Move a b c = moveLine d a b c
-after d Safe a b c = d
-after d Head a b c = d
-after d Erase a b c = d
-after d Malformed a b c = d
+-- the draft after a line that is not refused, by its word and its numbers
+abbrev pub after : Draft → Word → Numbers → Draft
+after d Size n = sizeLine d n
+after d Start n = startLine d n
+after d Final n = finalLine d n
+after d Event n = eventLine d n
+after d Exit n = ruleLine 0 d n
+after d Direct n = ruleLine 1 d n
+after d Call n = ruleLine 2 d n
+after d Move n = moveLine d n
+after d Unknown n = d
 
 -- a line that is refused changes nothing
 abbrev pub taken : Draft → ℕ → Draft → Taken
 taken d n next = record { refusal = n; draft = pick (eqb n 0) next d }
 
-abbrev pub takeWord : Draft → Word → (a b c : ℕ) → Taken
-takeWord d w a b c = taken d (refusal (tests (countsOf d) w a b c)) (after d w a b c)
-
 unfoldable pub takeLine : Draft → Line → Taken
-takeLine d l = takeWord d (l .word) (getD (l .numbers .at) 0 0) (getD (l .numbers .at) 1 0) (getD (l .numbers .at) 2 0)
+takeLine d l = taken d (refusal (tests (countsOf d) (l .word) (l .numbers))) (after d (l .word) (l .numbers))

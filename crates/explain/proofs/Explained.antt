@@ -14,7 +14,6 @@ use Rattle.product.specs.Rounds.{works}
 use Rattle.product.proofs.Lists.{over-over}
 use Rattle.model.specs.declared.Model.{Model}
 use Rattle.model.specs.Model.{productOf}
-use Rattle.model.proofs.Steps.{next-rows}
 use Rattle.culprit.specs.declared.Goal.the-variants.{Head, Triple}
 use Rattle.culprit.specs.First.{firstOf}
 use Rattle.explain.specs.Search.{stepOf, chances, tried, triedAt, byMove, byRule, searched}
@@ -89,23 +88,21 @@ StatesIn Q (head q g) = q < Q
 StatesIn Q (triple q g e) = (q < Q) × (e < Q)
 
 module _ (m : Model) (h : Fact → Bool) where
-  by-step : (f : Fact) → StatesIn (m .states) f → (r v : ℕ) → r < m .rules → v < m .moves
-      → find (works h f) (waysOf (productOf m) (stepOf r v)) ≡ byMove (m .rulerows) (m .moverows) (m .shows) h (goalOf f) (m .states) r v
-  by-step (head q g) l r v i j =
+  by-step : (f : Fact) → StatesIn (m .states) f → (r v : ℕ)
+      → find (works h f) (waysOf (productOf m) (stepOf r v)) ≡ byMove (productOf m) h (goalOf f) (m .states) r v
+  by-step (head q g) l r v =
       find-over (works h (head q g)) (m .states) (λ x. waysTo (productOf m) (stepOf r v) x (productOf m .next (stepOf r v) x))
       ∙ first-same (λ x. find (works h (head q g)) (waysTo (productOf m) (stepOf r v) x (productOf m .next (stepOf r v) x)))
-      (triedAt (m .rulerows) (m .moverows) (m .shows) h (Head q g) r v) (m .states) λ x _.
+      (triedAt (productOf m) h (Head q g) r v) (m .states) λ x _.
       at x (productOf m .next (stepOf r v) x)
-      ∙ ap (tried h (Head q g) (stepOf r v) x (ruleOf (productOf m) (stepOf r v))) (next-rows m (stepOf r v) i j x)
     where
       at : (x : ℕ) (o : Option ℕ) → find (works h (head q g)) (waysTo (productOf m) (stepOf r v) x o) ≡ tried h (Head q g) (stepOf r v) x (ruleOf (productOf m) (stepOf r v)) o
       at x none = refl
       at x (some y) = by-head h (m .states) (stepOf r v) q g l x y (ruleOf (productOf m) (stepOf r v))
-  by-step (triple q g e) (l, k) r v i j =
+  by-step (triple q g e) (l, k) r v =
       find-over (works h (triple q g e)) (m .states) (λ x. waysTo (productOf m) (stepOf r v) x (productOf m .next (stepOf r v) x))
       ∙ first-only (λ x. find (works h (triple q g e)) (waysTo (productOf m) (stepOf r v) x (productOf m .next (stepOf r v) x))) (m .states) q l (λ x n. other x n (productOf m .next (stepOf r v) x))
       ∙ at (productOf m .next (stepOf r v) q)
-      ∙ ap (λ o. firstOf (λ x. tried h (Triple q g e) (stepOf r v) x (ruleOf (productOf m) (stepOf r v)) o) (m .states)) (next-rows m (stepOf r v) i j q)
     where
       other : (x : ℕ) → (x ≡ q → ⊥) → (o : Option ℕ) → find (works h (triple q g e)) (waysTo (productOf m) (stepOf r v) x o) ≡ none
       other x n none = refl
@@ -116,8 +113,8 @@ module _ (m : Model) (h : Fact → Bool) where
       at (some y) = by-triple h (m .states) (stepOf r v) q g e (omega arith) k y (ruleOf (productOf m) (stepOf r v))
 
   pub searched-ways : (f : Fact) → StatesIn (m .states) f
-      → searched (m .rulerows) (m .moverows) (m .shows) h (goalOf f) (m .rules) (m .moves) (m .states) ≡ find (works h f) (ways (productOf m))
+      → searched (productOf m) h (goalOf f) (m .rules) (m .moves) (m .states) ≡ find (works h f) (ways (productOf m))
   searched-ways f l = sym
       (find-ways (productOf m) (works h f)
-      ∙ first-same (λ r. firstOf (λ v. find (works h f) (waysOf (productOf m) (stepOf r v))) (m .moves)) (byRule (m .rulerows) (m .moverows) (m .shows) h (goalOf f) (m .moves) (m .states)) (m .rules) λ r i.
-      first-same (λ v. find (works h f) (waysOf (productOf m) (stepOf r v))) (byMove (m .rulerows) (m .moverows) (m .shows) h (goalOf f) (m .states) r) (m .moves) (λ v j. by-step f l r v i j))
+      ∙ first-same (λ r. firstOf (λ v. find (works h f) (waysOf (productOf m) (stepOf r v))) (m .moves)) (byRule (productOf m) h (goalOf f) (m .moves) (m .states)) (m .rules) λ r _.
+      first-same (λ v. find (works h f) (waysOf (productOf m) (stepOf r v))) (byMove (productOf m) h (goalOf f) (m .states) r) (m .moves) (λ v _. by-step f l r v))

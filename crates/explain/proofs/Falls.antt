@@ -1,18 +1,16 @@
 -- What is found has its rule and its move in range, and needs facts of lower rank only; and its steps are those of the trace. Assumes nothing.
-use mathlib.Core.Bool.{Bool}
 use mathlib.Core.List.{List, [], _∷_}
 use mathlib.Core.Option.{Option, none, some}
-use mathlib.Core.Path.{_≡_, refl, subst, subst⁻¹}
+use mathlib.Core.Path.{_≡_, refl, subst⁻¹}
 use Prim.Native.Nat.{ℕ, zero, suc, _<_}
 use native.Mathlib.Omega.{arith}
 use lib.Dec.{T, ltb→lt}
 use Rattle.product.specs.Lists.{All, all}
-use Rattle.product.specs.Product.{Rule, exit, direct, call, Step}
+use Rattle.product.specs.Product.{Rule, exit, direct, call, Step, Product}
 use Rattle.product.specs.Facts.{Fact, head, triple, Way, needs}
 use Rattle.product.specs.Table.{Table}
 use Rattle.product.specs.Trace.{trace}
 use Rattle.product.proofs.Lists.{and-right, All-of, All-left, All-right, All-at}
-use Rattle.model.specs.Model.{ruleAt, nextAt}
 use Rattle.culprit.specs.declared.Goal.{Goal}
 use Rattle.culprit.specs.declared.Goal.the-variants.{Head, Triple, Nothing}
 use Rattle.explain.specs.declared.Cause.{Cause}
@@ -84,16 +82,16 @@ pub same-cause : {c c′ : Cause} → By c ≡ By c′ → c ≡ c′
 same-cause e = cc
 
 -- what was found for a fact falls
-module _ (rulerows moverows : List ℕ) (shows : List Bool) (rules moves states : ℕ) (t : Table) (f : Goal) where
+module _ (p : Product) (rules moves states : ℕ) (t : Table) (f : Goal) where
   abbrev why : ℕ → Goal → Option Way
-  why k f = searched rulerows moverows shows (lower t k) f rules moves states
+  why k f = searched p (lower t k) f rules moves states
 
   sound-why : (k : ℕ) (w : Way) → why k f ≡ some w → Sound rules moves t k w
   sound-why k w is =
-      first-elim (Sound rules moves t k) (byRule rulerows moverows shows (lower t k) f moves states) rules
-      (λ r w i. first-elim (Sound rules moves t k) (byMove rulerows moverows shows (lower t k) f states r) moves
-      (λ v w j. first-elim (Sound rules moves t k) (triedAt rulerows moverows shows (lower t k) f r v) states
-      (λ x w _. sound-tried rules moves t k f r v x i j (ruleAt rulerows r) (nextAt rulerows moverows shows r v (source f x)) w) w) w) w is
+      first-elim (Sound rules moves t k) (byRule p (lower t k) f moves states) rules
+      (λ r w i. first-elim (Sound rules moves t k) (byMove p (lower t k) f states r) moves
+      (λ v w j. first-elim (Sound rules moves t k) (triedAt p (lower t k) f r v) states
+      (λ x w _. sound-tried rules moves t k f r v x i j (p .rule r) (p .next (stepOf r v) (source f x)) w) w) w) w is
 
   falls-at : (k : ℕ) {d : Found} → d ≡ foundAs (byRank why f k) → {c : Cause} → d ≡ By c → Falls rules moves t k c
   falls-at zero read told = let z : _≡_ {A = ℕ} 0 1 = cc in absurd (omega arith)

@@ -1,6 +1,6 @@
 -- A step tried for a fact, by the tests of the code. Assumes nothing.
 use mathlib.Core.Bool.{Bool, true, false, cond, _&&_}
-use mathlib.Core.List.{List, [], _∷_, _++_}
+use mathlib.Core.List.{[], _∷_, _++_}
 use mathlib.Core.Option.{Option, none, some}
 use mathlib.Core.Path.{_≡_, refl, sym, ap, ap₂, _∙_}
 use Prim.Native.Nat.{ℕ, zero, suc, _-_, _<_, _≤_}
@@ -8,14 +8,13 @@ use native.Mathlib.Omega.{arith}
 use borrow.Author.Tests.{lt-ltb, le-ltb}
 use Rattle.product.specs.Lists.{all, find}
 use Rattle.product.specs.Product as product
-use Rattle.product.specs.Product.{exit, direct, call, Step}
+use Rattle.product.specs.Product.{exit, direct, call, Step, Product}
 use Rattle.product.specs.Facts.{Fact, head, triple, Way, needs, leaves, enters, backs, returns, meets}
 use Rattle.product.specs.Table.{Table}
 use Rattle.product.proofs.Lists.{all-append}
 use Rattle.model.specs.declared.Rule.{Rule}
 use Rattle.model.specs.declared.Next.{Next}
 use Rattle.model.specs.declared.Next.the-variants.{To, Stuck}
-use Rattle.model.specs.Model.{ruleAt, nextAt}
 use Rattle.model.specs.Answers.{ruleAs, meant, nextAs, landed}
 use Rattle.model.proofs.Answers.{meant-as}
 use Rattle.model.proofs.Bounds.{landed-as}
@@ -117,17 +116,17 @@ found-some none e i = let z : _≡_ {A = ℕ} 0 1 = cc in absurd (omega arith)
 found-some (some w) e i = (w, refl, sym i ∙ e)
 
 -- a rule and a move with a free state, by the state that they lead to
-module _ (rulerows moverows : List ℕ) (shows : List Bool) (h : Fact → Bool) (f : Goal) (r v x : ℕ) {q : ℕ} (from : q ≡ source f x) {n : Next}
-    (read : n ≡ nextAs (nextAt rulerows moverows shows r v q)) where
-  lands : nextAt rulerows moverows shows r v (source f x) ≡ landed n
-  lands = sym (ap landed (read ∙ ap (λ q. nextAs (nextAt rulerows moverows shows r v q)) from) ∙ landed-as (nextAt rulerows moverows shows r v (source f x)))
+module _ (p : Product) (h : Fact → Bool) (f : Goal) (r v x : ℕ) {q : ℕ} (from : q ≡ source f x) {n : Next}
+    (read : n ≡ nextAs (p .next (stepOf r v) q)) where
+  lands : p .next (stepOf r v) (source f x) ≡ landed n
+  lands = sym (ap landed (read ∙ ap (λ q. nextAs (p .next (stepOf r v) q)) from) ∙ landed-as (p .next (stepOf r v) (source f x)))
 
-  pub tried-stuck : n ≡ Stuck → Nowhere ≡ foundAs (triedAt rulerows moverows shows h f r v x)
-  tried-stuck i = ap (λ o. foundAs (tried h f (stepOf r v) x (ruleAt rulerows r) o)) (sym (lands ∙ ap landed i))
+  pub tried-stuck : n ≡ Stuck → Nowhere ≡ foundAs (triedAt p h f r v x)
+  tried-stuck i = ap (λ o. foundAs (tried h f (stepOf r v) x (p .rule r) o)) (sym (lands ∙ ap landed i))
 
-  pub tried-to : {y : ℕ} → n ≡ To y → {ρ : Rule} → ρ ≡ ruleAs (ruleAt rulerows r)
+  pub tried-to : {y : ℕ} → n ≡ To y → {ρ : Rule} → ρ ≡ ruleAs (p .rule r)
       → {a : Found} → a ≡ foundAs (givenBy f (sooner f (stepOf r v) x y (meant ρ))) → {b : Found} → b ≡ foundAs (givenBy f (later f (stepOf r v) x y (meant ρ)))
-      → {d : Found} → d ≡ firstHas h a b → d ≡ foundAs (triedAt rulerows moverows shows h f r v x)
+      → {d : Found} → d ≡ firstHas h a b → d ≡ foundAs (triedAt p h f r v x)
   tried-to {y} i {ρ} k {a} one {b} two e =
       e
       ∙ first-has h a b
@@ -135,21 +134,21 @@ module _ (rulerows moverows : List ℕ) (shows : List Bool) (h : Fact → Bool) 
       ∙ ap₂ orFound (has-sooner h (stepOf r v) x y f (meant ρ)) (has-later h (stepOf r v) x y f (meant ρ))
       ∙ found-or (find (explains h f) (sooner f (stepOf r v) x y (meant ρ))) (find (explains h f) (later f (stepOf r v) x y (meant ρ)))
       ∙ ap foundAs (sym (find-append (explains h f) (sooner f (stepOf r v) x y (meant ρ)) (later f (stepOf r v) x y (meant ρ))))
-      ∙ ap (λ ρ. foundAs (find (explains h f) (chances f (stepOf r v) x y ρ))) (ap meant k ∙ meant-as (ruleAt rulerows r))
-      ∙ ap (λ o. foundAs (tried h f (stepOf r v) x (ruleAt rulerows r) o)) (sym (lands ∙ ap landed i))
+      ∙ ap (λ ρ. foundAs (find (explains h f) (chances f (stepOf r v) x y ρ))) (ap meant k ∙ meant-as (p .rule r))
+      ∙ ap (λ o. foundAs (tried h f (stepOf r v) x (p .rule r) o)) (sym (lands ∙ ap landed i))
 
 -- the search comes to its end
-module _ (rulerows moverows : List ℕ) (shows : List Bool) (h : Fact → Bool) (f : Goal) (rules moves states r v x : ℕ) where
-  pub search-here : r < rules → firstOf (byRule rulerows moverows shows h f moves states) r ≡ none
-      → v < moves → firstOf (byMove rulerows moverows shows h f states r) v ≡ none
-      → x < states → firstOf (triedAt rulerows moverows shows h f r v) x ≡ none
-      → {d : Found} → d ≡ foundAs (triedAt rulerows moverows shows h f r v x) → {c : Cause} → d ≡ By c → By c ≡ foundAs (searched rulerows moverows shows h f rules moves states)
+module _ (p : Product) (h : Fact → Bool) (f : Goal) (rules moves states r v x : ℕ) where
+  pub search-here : r < rules → firstOf (byRule p h f moves states) r ≡ none
+      → v < moves → firstOf (byMove p h f states r) v ≡ none
+      → x < states → firstOf (triedAt p h f r v) x ≡ none
+      → {d : Found} → d ≡ foundAs (triedAt p h f r v x) → {c : Cause} → d ≡ By c → By c ≡ foundAs (searched p h f rules moves states)
   search-here i a j b k e read told =
-      let (w, is, by) = found-some (triedAt rulerows moverows shows h f r v x) read told in
+      let (w, is, by) = found-some (triedAt p h f r v x) read told in
       by ∙ ap foundAs (sym
-      (first-here (byRule rulerows moverows shows h f moves states) rules r w i a
-      (first-here (byMove rulerows moverows shows h f states r) moves v w j b
-      (first-here (triedAt rulerows moverows shows h f r v) states x w k e is))))
+      (first-here (byRule p h f moves states) rules r w i a
+      (first-here (byMove p h f states r) moves v w j b
+      (first-here (triedAt p h f r v) states x w k e is))))
 
 -- a rank above 0
 pub by-rank : (why : ℕ → Goal → Option Way) (f : Goal) (k : ℕ) → (k ≡ 0 → ⊥) → {d : Found} → d ≡ foundAs (why (suc (k - 1)) f) → d ≡ foundAs (byRank why f k)

@@ -5,10 +5,9 @@ use mathlib.Core.Option.{Option, none, some}
 use Prim.Native.Nat.{ℕ, zero, suc}
 use lib.Dec.{ltb}
 use Rattle.product.specs.Lists.{all, find}
-use Rattle.product.specs.Product.{Rule, exit, direct, call, Step}
+use Rattle.product.specs.Product.{Rule, exit, direct, call, Step, Product}
 use Rattle.product.specs.Facts.{Fact, head, triple, Way, needs, same, leaves, enters, backs, returns, meets}
 use Rattle.product.specs.Table.{Table}
-use Rattle.model.specs.Model.{ruleAt, nextAt}
 use Rattle.table.specs.Cells.{view}
 use Rattle.culprit.specs.declared.Goal.{Goal}
 use Rattle.culprit.specs.declared.Goal.the-variants.{Head, Triple, Nothing}
@@ -72,11 +71,11 @@ chancesTo f s x ρ (some y) = chances f s x y ρ
 abbrev pub tried : (Fact → Bool) → Goal → Step → ℕ → Rule → Option ℕ → Option Way
 tried h f s x ρ o = find (explains h f) (chancesTo f s x ρ o)
 
-module _ (rulerows moverows : List ℕ) (shows : List Bool) (h : Fact → Bool) (f : Goal) where
+module _ (p : Product) (h : Fact → Bool) (f : Goal) where
   -- by rule r, move v and the free state x
   abbrev pub triedAt : (r v x : ℕ) → Option Way
   triedAt r v x =
-      tried h f (stepOf r v) x (ruleAt rulerows r) (nextAt rulerows moverows shows r v (source f x))
+      tried h f (stepOf r v) x (p .rule r) (p .next (stepOf r v) (source f x))
 
   -- the lowest state; the first move, then the lowest state; the first rule, then the first move, then the lowest state
   abbrev pub byMove : (states r v : ℕ) → Option Way
@@ -89,9 +88,9 @@ module _ (rulerows moverows : List ℕ) (shows : List Bool) (h : Fact → Bool) 
   searched rules moves states = firstOf (byRule moves states) rules
 
 -- the explanation of a fact of rank k, in the two arrays
-abbrev pub whyIn : (rulerows moverows : List ℕ) → (shows : List Bool) → (symbols states : ℕ) → (heads triples : List ℕ) → (rules moves : ℕ) → ℕ → Goal → Option Way
-whyIn rulerows moverows shows symbols states heads triples rules moves k f =
-    searched rulerows moverows shows (below symbols states heads triples k) f rules moves states
+abbrev pub whyIn : Product → (symbols states : ℕ) → (heads triples : List ℕ) → (rules moves : ℕ) → ℕ → Goal → Option Way
+whyIn p symbols states heads triples rules moves k f =
+    searched p (below symbols states heads triples k) f rules moves states
 
 -- the explanation of a fact by its rank; one of rank 0 has none
 abbrev pub byRank : (ℕ → Goal → Option Way) → Goal → ℕ → Option Way

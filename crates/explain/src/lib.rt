@@ -2,9 +2,11 @@
 ghost use mathlib.Core.Path.{_≡_};
 ghost use Prim.Native.Nat.{suc};
 ghost use Rattle.table.specs.Cells.{view};
+ghost use Rattle.lent.specs.Lending.{productIn};
 ghost use Rattle.explain.specs.Answers.{foundAs, rankOf};
 ghost use Rattle.explain.specs.Search.{whyIn, byRank};
 use culprit::Goal;
+use lent::Lent;
 use table::Size;
 
 mod ways; // the ways in which a step may give a fact
@@ -52,16 +54,14 @@ fn rank_of<'a>(heads: &'a [u16], triples: &'a [u16], size: Size, f: Goal) -> u16
 
 // By the first rule, then the first move, then the lowest state whose needed facts all have rank at most k.
 fn first_cause<'a>(
-    rules: &'a [u8; 1024],
-    moves: &'a [u8; 384],
-    shows: &'a [bool; 512],
+    m: &'a Lent,
     heads: &'a [u16],
     triples: &'a [u16],
     n: Counts,
     k: u16,
     f: Goal,
 ) -> Found
-    ensures { λ w. ⌜ w ≡ foundAs (whyIn (now (rules .entry)) (now (moves .entry)) (now (shows .entry)) (n .size .symbols) (n .size .states) (now (heads .entry)) (now (triples .entry)) (n .rules) (n .moves) (suc k) f) ⌝ }
+    ensures { λ w. ⌜ w ≡ foundAs (whyIn (productIn (now (m .entry))) (n .size .symbols) (n .size .states) (now (heads .entry)) (now (triples .entry)) (n .rules) (n .moves) (suc k) f) ⌝ }
 {
     let size = n.size;
     let states = size.states as usize;
@@ -76,7 +76,7 @@ fn first_cause<'a>(
         'moves: while v < move_count {
             let mut x: usize = 0;
             'states: while x < states {
-                let w = why::tried(rules, moves, shows, heads, triples, size, k, f, r, v, x);
+                let w = why::tried(m, heads, triples, size, k, f, r, v, x);
                 if let Found::By(c) = w {
                     break 'found Found::By(c);
                 }
@@ -89,21 +89,13 @@ fn first_cause<'a>(
 }
 
 // The explanation of a fact; one of rank 0 has none.
-pub fn explain<'a>(
-    rules: &'a [u8; 1024],
-    moves: &'a [u8; 384],
-    shows: &'a [bool; 512],
-    heads: &'a [u16],
-    triples: &'a [u16],
-    n: Counts,
-    f: Goal,
-) -> Found
-    ensures { λ w. ⌜ w ≡ foundAs (byRank (whyIn (now (rules .entry)) (now (moves .entry)) (now (shows .entry)) (n .size .symbols) (n .size .states) (now (heads .entry)) (now (triples .entry)) (n .rules) (n .moves)) f (rankOf (view (n .size .symbols) (n .size .states) (now (heads .entry)) (now (triples .entry))) f)) ⌝ }
+pub fn explain<'a>(m: &'a Lent, heads: &'a [u16], triples: &'a [u16], n: Counts, f: Goal) -> Found
+    ensures { λ w. ⌜ w ≡ foundAs (byRank (whyIn (productIn (now (m .entry))) (n .size .symbols) (n .size .states) (now (heads .entry)) (now (triples .entry)) (n .rules) (n .moves)) f (rankOf (view (n .size .symbols) (n .size .states) (now (heads .entry)) (now (triples .entry))) f)) ⌝ }
 {
     let size = n.size;
     let k = rank_of(heads, triples, size, f);
     if k == 0 {
         return Found::Nowhere;
     }
-    first_cause(rules, moves, shows, heads, triples, n, k - 1, f)
+    first_cause(m, heads, triples, n, k - 1, f)
 }

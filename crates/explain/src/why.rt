@@ -1,6 +1,7 @@
 // A step tried for a fact: of the ways that give it, the first whose needed facts all have lower rank.
 ghost use mathlib.Core.Path.{_≡_};
 ghost use Prim.Native.Nat.{suc};
+ghost use Rattle.lent.specs.Lending.{productIn};
 ghost use Rattle.explain.specs.Answers.{foundAs, hasAll, firstHas};
 ghost use Rattle.explain.specs.Search.{below, source, triedAt};
 use crate::Found;
@@ -8,6 +9,7 @@ use crate::Step;
 use crate::rank_of;
 use crate::ways;
 use culprit::Goal;
+use lent::Lent;
 use model::Next;
 use table::Size;
 
@@ -66,9 +68,7 @@ fn source(f: Goal, x: usize) -> usize
 
 // Rule r and move v, with the free state x.
 pub fn tried<'a>(
-    rules: &'a [u8; 1024],
-    moves: &'a [u8; 384],
-    shows: &'a [bool; 512],
+    m: &'a Lent,
     heads: &'a [u16],
     triples: &'a [u16],
     size: Size,
@@ -78,9 +78,9 @@ pub fn tried<'a>(
     v: usize,
     x: usize,
 ) -> Found
-    ensures { λ w. ⌜ w ≡ foundAs (triedAt (now (rules .entry)) (now (moves .entry)) (now (shows .entry)) (below (size .symbols) (size .states) (now (heads .entry)) (now (triples .entry)) (suc k)) f r v x) ⌝ }
+    ensures { λ w. ⌜ w ≡ foundAs (triedAt (productIn (now (m .entry))) (below (size .symbols) (size .states) (now (heads .entry)) (now (triples .entry)) (suc k)) f r v x) ⌝ }
 {
-    let next = model::next_state(rules, moves, shows, r, v, source(f, x));
+    let next = lent::next_state(m, r, v, source(f, x));
     match next {
         Next::Stuck => Found::Nowhere,
         Next::To(y) => {
@@ -90,7 +90,7 @@ pub fn tried<'a>(
                 free: x,
                 to: y,
             };
-            let rule = model::rule_at(rules, r);
+            let rule = lent::rule_at(m, r);
             let first = ways::first(s, rule, f);
             let second = ways::second(s, rule, f);
             first_lower(heads, triples, size, k, first, second)

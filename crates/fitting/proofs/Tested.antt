@@ -6,12 +6,14 @@ use native.Mathlib.Omega.{arith}
 use lib.Dec.{T, ltb}
 use borrow.Author.Tests.{lt-ltb, le-ltb, ltb-false}
 use Rattle.text.specs.Split.{pick}
+use Rattle.table.specs.Cells.{headCount, tripleCount}
 use Rattle.product.proofs.Lists.{T-true}
 use Rattle.model.specs.declared.Model.{Model}
 use Rattle.model.specs.Valid.{valid}
 use Rattle.model.proofs.Bounds.{few-heads, few-triples}
 use Rattle.fitting.specs.declared.Fit.{Fit}
-use Rattle.fitting.specs.Fits.{headsOf, triplesOf, tested, fitOf, Fits}
+use Rattle.table.specs.declared.Size.{Size}
+use Rattle.fitting.specs.Fits.{sizeOf, refused, headsOf, triplesOf, tested, fitOf, Fits}
 
 -- how many cells a table has at the most
 pub record Cells (m : Model) : Type 0 where
@@ -54,7 +56,7 @@ module _ (m : Model) (h t : ℕ) where
 
   module _ {f : Fit} (e : f ≡ fitOf m h t) where
     number : tested m h t 6 7 0 ≡ f .refusal
-    number = tested-ap {A = Fit} (λ f. f .refusal) (record { refusal = 6; heads = 0; triples = 0 }) (record { refusal = 7; heads = 0; triples = 0 }) (record { refusal = 0; heads = headsOf m; triples = triplesOf m }) ∙ ap (λ (f : Fit). f .refusal) (sym e)
+    number = tested-ap {A = Fit} (λ f. f .refusal) (refused 6) (refused 7) (record { refusal = 0; size = sizeOf m; heads = headsOf m; triples = triplesOf m }) ∙ ap (λ (f : Fit). f .refusal) (sym e)
 
     pub is-invalid : f .refusal ≡ 6 → {A : Type 0} (a b c : A) → tested m h t a b c ≡ a
     is-invalid r {A} a b c = go (valid m) (ltb h (headsOf m)) (ltb t (triplesOf m)) (number ∙ r)
@@ -84,7 +86,7 @@ module _ (m : Model) (h t : ℕ) where
           go true v false i true j k = absurd (q (sym k))
           go true v false i false j k = record { valid-model = rw v tt; heads-there = ltb-false _ _ i; triples-there = ltb-false _ _ j }
 
-      is-fit : f ≡ record { refusal = 0; heads = headsOf m; triples = triplesOf m }
+      is-fit : f ≡ record { refusal = 0; size = sizeOf m; heads = headsOf m; triples = triplesOf m }
       is-fit = e ∙ tested-well is-well _ _ _
 
       pub heads-are : f .heads ≡ headsOf m
@@ -92,3 +94,18 @@ module _ (m : Model) (h t : ℕ) where
 
       pub triples-are : f .triples ≡ triplesOf m
       triples-are = ap (λ f. f .triples) is-fit
+
+      pub size-is : f .size ≡ sizeOf m
+      size-is = ap (λ (f : Fit). f .size) is-fit
+
+-- the counts of the size that was read are the model's
+module _ (m : Model) {z : Size} (read : z ≡ sizeOf m) where
+  pub heads-read : {h : ℕ} → h ≡ headCount (z .symbols) (z .states) → h ≡ headsOf m
+  heads-read e = e ∙ ap (λ (z : Size). headCount (z .symbols) (z .states)) read
+
+  pub triples-read : {t : ℕ} → t ≡ tripleCount (z .symbols) (z .states) → t ≡ triplesOf m
+  triples-read e = e ∙ ap (λ (z : Size). tripleCount (z .symbols) (z .states)) read
+
+pub fit-read : (m : Model) {z : Size} {h t : ℕ} → z ≡ sizeOf m → h ≡ headsOf m → t ≡ triplesOf m
+    → _≡_ {A = Fit} (record { refusal = 0; size = z; heads = h; triples = t }) (record { refusal = 0; size = sizeOf m; heads = headsOf m; triples = triplesOf m })
+fit-read m {z} {h} {t} a b c = rw (a, b, c)

@@ -2,10 +2,15 @@
 use Prim.Native.Nat.{ℕ, _≤_}
 use lib.Dec.{T, ltb}
 use Rattle.text.specs.Split.{pick}
+use Rattle.table.specs.declared.Size.{Size}
 use Rattle.table.specs.Cells.{headCount, tripleCount}
 use Rattle.model.specs.declared.Model.{Model}
 use Rattle.model.specs.Valid.{valid}
 use Rattle.fitting.specs.declared.Fit.{Fit}
+
+-- the size of a model's table: its symbols, and the states of its product
+abbrev pub sizeOf : Model → Size
+sizeOf m = record { symbols = m .symbols; states = m .states }
 
 -- how many heads and triples a model has
 abbrev pub headsOf : Model → ℕ
@@ -19,10 +24,13 @@ abbrev pub tested : {A : Type 0} → Model → (heads triples : ℕ) → (invali
 tested m heads triples invalid short well =
     pick (valid m) (pick (ltb heads (headsOf m)) short (pick (ltb triples (triplesOf m)) short well)) invalid
 
--- the number of the refusal, or the numbers of cells
+-- the number of the refusal, or the size and the numbers of cells
+abbrev pub refused : ℕ → Fit
+refused n = record { refusal = n; size = record { symbols = 0; states = 0 }; heads = 0; triples = 0 }
+
 abbrev pub fitOf : Model → (heads triples : ℕ) → Fit
 fitOf m heads triples =
-    tested m heads triples (record { refusal = 6; heads = 0; triples = 0 }) (record { refusal = 7; heads = 0; triples = 0 }) (record { refusal = 0; heads = headsOf m; triples = triplesOf m })
+    tested m heads triples (refused 6) (refused 7) (record { refusal = 0; size = sizeOf m; heads = headsOf m; triples = triplesOf m })
 
 -- the model is valid, and arrays of so many cells are long enough for its table
 pub record Fits (m : Model) (heads triples : ℕ) : Type 0 where

@@ -6,8 +6,9 @@ use native.Mathlib.Omega.{arith}
 use lib.Dec.{ltb}
 use borrow.Author.Tests.{ltb-false, leb-false}
 use Rattle.text.specs.Split.{pick}
-use Rattle.line.specs.declared.Word.{Word}
-use Rattle.line.specs.declared.Word.the-variants.{Size, Start, Final, Event, Exit, Direct, Call, Move, Safe, Head, Erase, Malformed}
+use Rattle.numbers.specs.declared.Numbers.{Numbers}
+use Rattle.modelline.specs.declared.Word.{Word}
+use Rattle.modelline.specs.declared.Word.the-variants.{Size, Start, Final, Event, Exit, Direct, Call, Move, Unknown}
 use Rattle.limits.specs.declared.Counts.{Counts}
 use Rattle.limits.specs.Limits.{Tests, refusal, uncounted, unsized, ruleTests, tests, Counted, RuleFits, Fits}
 
@@ -41,29 +42,23 @@ neither false b e = (refl, e)
 counted : (most n : ℕ) → uncounted most n ≡ false → Counted most n
 counted most n e = let (l, h) = neither (ltb n 1) (ltb most n) e in (ltb-false n 1 l, ltb-false most n h)
 
-never : _≡_ {A = Bool} true false → ⊥
-never e = let z : _≡_ {A = ℕ} 0 1 = cc in omega arith
+rule-fits : (takes : ℕ) (k : Counts) (n : Numbers) → Passed (ruleTests takes k n) → RuleFits k n
+rule-fits takes k n p = (leb-false 256 _ (p .full), leb-false _ _ (p .first), leb-false _ _ (p .second), leb-false _ _ (p .third))
 
-rule-fits : (k : Counts) (g g1 g2 : ℕ) → Passed (ruleTests k g g1 g2) → RuleFits k g g1 g2
-rule-fits k g g1 g2 p = (leb-false 256 _ (p .full), leb-false _ g (p .first), leb-false _ g1 (p .second), leb-false _ g2 (p .third))
-
-by-word : (k : Counts) (w : Word) (a b c : ℕ) → Passed (tests k w a b c) → Fits k w a b c
-by-word k Size a b c p =
+by-word : (k : Counts) (w : Word) (n : Numbers) → Passed (tests k w n) → Fits k w n
+by-word k Size n p =
     let l = ltb-false 0 (k .symbols) (p .misplaced) in
-    (omega arith, counted 32 a (p .first), counted 8 b (p .second), counted 16 c (p .third))
-by-word k Start a b c p =
+    (omega arith, counted 32 _ (p .first), counted 8 _ (p .second), counted 16 _ (p .third))
+by-word k Start n p =
     let l = ltb-false 0 (k .started) (neither (unsized k) (ltb 0 (k .started)) (p .misplaced) .1) in
-    (omega arith, leb-false _ a (p .first), leb-false _ b (p .second))
-by-word k Final a b c p = leb-false _ a (p .first)
-by-word k Event a b c p = (leb-false _ a (p .first), leb-false _ b (p .second))
-by-word k Exit a b c p = rule-fits k a 0 0 p
-by-word k Direct a b c p = rule-fits k a b 0 p
-by-word k Call a b c p = rule-fits k a b c p
-by-word k Move a b c p = (leb-false 128 _ (p .full), leb-false _ a (p .first), leb-false _ b (p .second), leb-false _ c (p .third))
-by-word k Safe a b c p = never (p .malformed)
-by-word k Head a b c p = never (p .malformed)
-by-word k Erase a b c p = never (p .malformed)
-by-word k Malformed a b c p = never (p .malformed)
+    (omega arith, leb-false _ _ (p .first), leb-false _ _ (p .second))
+by-word k Final n p = leb-false _ _ (p .first)
+by-word k Event n p = (leb-false _ _ (p .first), leb-false _ _ (p .second))
+by-word k Exit n p = rule-fits 1 k n p
+by-word k Direct n p = rule-fits 2 k n p
+by-word k Call n p = rule-fits 3 k n p
+by-word k Move n p = (leb-false 128 _ (p .full), leb-false _ _ (p .first), leb-false _ _ (p .second), leb-false _ _ (p .third))
+by-word k Unknown n p = let e = p .malformed in let z : _≡_ {A = ℕ} 0 1 = cc in omega arith
 
-pub fits : (k : Counts) (w : Word) (a b c : ℕ) {n : ℕ} → n ≡ refusal (tests k w a b c) → n ≡ 0 → Fits k w a b c
-fits k w a b c p e = by-word k w a b c (passed (tests k w a b c) (rw p at e))
+pub fits : (k : Counts) (w : Word) (n : Numbers) {r : ℕ} → r ≡ refusal (tests k w n) → r ≡ 0 → Fits k w n
+fits k w n p e = by-word k w n (passed (tests k w n) (rw p at e))

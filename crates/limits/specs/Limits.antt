@@ -1,11 +1,13 @@
 -- When a line of a model text is refused, and by which number, from what was read before it. Assumes nothing.
-use mathlib.Core.Bool.{Bool, true, false, _||_}
+use mathlib.Core.Bool.{Bool, true, false, not, _||_}
 use mathlib.Core.Path.{_≡_}
 use Prim.Native.Nat.{ℕ, _≤_, _<_}
 use lib.Dec.{eqb, leb, ltb}
 use Rattle.text.specs.Split.{pick}
-use Rattle.line.specs.declared.Word.{Word}
-use Rattle.line.specs.declared.Word.the-variants.{Size, Start, Final, Event, Exit, Direct, Call, Move, Safe, Head, Erase, Malformed}
+use Rattle.numbers.specs.Number.{nth}
+use Rattle.numbers.specs.declared.Numbers.{Numbers}
+use Rattle.modelline.specs.declared.Word.{Word}
+use Rattle.modelline.specs.declared.Word.the-variants.{Size, Start, Final, Event, Exit, Direct, Call, Move, Unknown}
 use Rattle.limits.specs.declared.Counts.{Counts}
 
 -- Whether a line is malformed, misplaced, or one too many; and whether its first, second or third number is outside its range.
@@ -21,12 +23,16 @@ pub record Tests : Type 0 where
 abbrev pub refusal : Tests → ℕ
 refusal t = pick (t .malformed) 2 (pick (t .misplaced) 3 (pick (t .first) 4 (pick (t .second) 4 (pick (t .third) 4 (pick (t .full) 5 0)))))
 
--- no line of a model text
+-- a word that no line of a model text begins with
 abbrev pub none : Tests
 none = record { malformed = true; misplaced = false; first = false; second = false; third = false; full = false }
 
-abbrev pub judged : (misplaced first second third full : Bool) → Tests
-judged misplaced first second third full = record { malformed = false; misplaced = misplaced; first = first; second = second; third = third; full = full }
+abbrev pub judged : (malformed misplaced first second third full : Bool) → Tests
+judged malformed misplaced first second third full = record { malformed = malformed; misplaced = misplaced; first = first; second = second; third = third; full = full }
+
+-- a line with another count of numbers than its word takes; numbers that are wrong have a count of 0
+abbrev pub miscounted : Numbers → (takes : ℕ) → Bool
+miscounted n takes = not (eqb (n .count) takes)
 
 -- no count from 1 to `most`
 abbrev pub uncounted : (most n : ℕ) → Bool
@@ -36,57 +42,58 @@ uncounted most n = ltb n 1 || ltb most n
 abbrev pub unsized : Counts → Bool
 unsized k = eqb (k .symbols) 0
 
-abbrev pub sizeTests : Counts → (g q e : ℕ) → Tests
-sizeTests k g q e = judged (ltb 0 (k .symbols)) (uncounted 32 g) (uncounted 8 q) (uncounted 16 e) false
+-- `size` symbols states events
+abbrev pub sizeTests : Counts → Numbers → Tests
+sizeTests k n = judged (miscounted n 3) (ltb 0 (k .symbols)) (uncounted 32 (nth n 0)) (uncounted 8 (nth n 1)) (uncounted 16 (nth n 2)) false
 
-abbrev pub startTests : Counts → (q g : ℕ) → Tests
-startTests k q g = judged (unsized k || ltb 0 (k .started)) (leb (k .states) q) (leb (k .symbols) g) false false
+-- `start` state symbol
+abbrev pub startTests : Counts → Numbers → Tests
+startTests k n = judged (miscounted n 2) (unsized k || ltb 0 (k .started)) (leb (k .states) (nth n 0)) (leb (k .symbols) (nth n 1)) false false
 
-abbrev pub finalTests : Counts → (q : ℕ) → Tests
-finalTests k q = judged (unsized k) (leb (k .states) q) false false false
+-- `final` state
+abbrev pub finalTests : Counts → Numbers → Tests
+finalTests k n = judged (miscounted n 1) (unsized k) (leb (k .states) (nth n 0)) false false false
 
-abbrev pub eventTests : Counts → (g e : ℕ) → Tests
-eventTests k g e = judged (unsized k) (leb (k .symbols) g) (leb (k .events) e) false false
+-- `event` symbol event
+abbrev pub eventTests : Counts → Numbers → Tests
+eventTests k n = judged (miscounted n 2) (unsized k) (leb (k .symbols) (nth n 0)) (leb (k .events) (nth n 1)) false false
 
--- the symbols that a rule does not push are 0, which is always in range
-abbrev pub ruleTests : Counts → (g g1 g2 : ℕ) → Tests
-ruleTests k g g1 g2 = judged (unsized k) (leb (k .symbols) g) (leb (k .symbols) g1) (leb (k .symbols) g2) (leb 256 (k .rules))
+-- a rule by the count of symbols that it takes: those that a line does not have are read as 0, which is always in range
+abbrev pub ruleTests : (takes : ℕ) → Counts → Numbers → Tests
+ruleTests takes k n =
+    judged (miscounted n takes) (unsized k) (leb (k .symbols) (nth n 0)) (leb (k .symbols) (nth n 1)) (leb (k .symbols) (nth n 2)) (leb 256 (k .rules))
 
-abbrev pub moveTests : Counts → (q e q′ : ℕ) → Tests
-moveTests k q e q′ = judged (unsized k) (leb (k .states) q) (leb (k .events) e) (leb (k .states) q′) (leb 128 (k .moves))
+-- `move` state event state
+abbrev pub moveTests : Counts → Numbers → Tests
+moveTests k n =
+    judged (miscounted n 3) (unsized k) (leb (k .states) (nth n 0)) (leb (k .events) (nth n 1)) (leb (k .states) (nth n 2)) (leb 128 (k .moves))
 
--- by the word and its first three numbers; the words of a listing are none here
-abbrev pub tests : Counts → Word → (a b c : ℕ) → Tests
-tests k Size a b c = sizeTests k a b c
-tests k Start a b c = startTests k a b
-tests k Final a b c = finalTests k a
-tests k Event a b c = eventTests k a b
-tests k Exit a b c = ruleTests k a 0 0
-tests k Direct a b c = ruleTests k a b 0
-tests k Call a b c = ruleTests k a b c
-tests k Move a b c = moveTests k a b c
-tests k Safe a b c = none
-tests k Head a b c = none
-tests k Erase a b c = none
-tests k Malformed a b c = none
+-- by the word and its numbers
+abbrev pub tests : Counts → Word → Numbers → Tests
+tests k Size n = sizeTests k n
+tests k Start n = startTests k n
+tests k Final n = finalTests k n
+tests k Event n = eventTests k n
+tests k Exit n = ruleTests 1 k n
+tests k Direct n = ruleTests 2 k n
+tests k Call n = ruleTests 3 k n
+tests k Move n = moveTests k n
+tests k Unknown n = none
 
 -- What holds of a line that is not refused.
 abbrev pub Counted : (most n : ℕ) → Type 0
 Counted most n = (1 ≤ n) × (n ≤ most)
 
-abbrev pub RuleFits : Counts → (g g1 g2 : ℕ) → Type 0
-RuleFits k g g1 g2 = (k .rules < 256) × (g < k .symbols) × (g1 < k .symbols) × (g2 < k .symbols)
+abbrev pub RuleFits : Counts → Numbers → Type 0
+RuleFits k n = (k .rules < 256) × (nth n 0 < k .symbols) × (nth n 1 < k .symbols) × (nth n 2 < k .symbols)
 
-abbrev pub Fits : Counts → Word → (a b c : ℕ) → Type 0
-Fits k Size a b c = (k .symbols ≡ 0) × Counted 32 a × Counted 8 b × Counted 16 c
-Fits k Start a b c = (k .started ≡ 0) × (a < k .states) × (b < k .symbols)
-Fits k Final a b c = a < k .states
-Fits k Event a b c = (a < k .symbols) × (b < k .events)
-Fits k Exit a b c = RuleFits k a 0 0
-Fits k Direct a b c = RuleFits k a b 0
-Fits k Call a b c = RuleFits k a b c
-Fits k Move a b c = (k .moves < 128) × (a < k .states) × (b < k .events) × (c < k .states)
-Fits k Safe a b c = ⊥
-Fits k Head a b c = ⊥
-Fits k Erase a b c = ⊥
-Fits k Malformed a b c = ⊥
+abbrev pub Fits : Counts → Word → Numbers → Type 0
+Fits k Size n = (k .symbols ≡ 0) × Counted 32 (nth n 0) × Counted 8 (nth n 1) × Counted 16 (nth n 2)
+Fits k Start n = (k .started ≡ 0) × (nth n 0 < k .states) × (nth n 1 < k .symbols)
+Fits k Final n = nth n 0 < k .states
+Fits k Event n = (nth n 0 < k .symbols) × (nth n 1 < k .events)
+Fits k Exit n = RuleFits k n
+Fits k Direct n = RuleFits k n
+Fits k Call n = RuleFits k n
+Fits k Move n = (k .moves < 128) × (nth n 0 < k .states) × (nth n 1 < k .events) × (nth n 2 < k .states)
+Fits k Unknown n = ⊥

@@ -3,7 +3,9 @@
 ghost use mathlib.Core.Bool.{_||_};
 ghost use mathlib.Core.Path.{_≡_};
 ghost use Rattle.limits.specs.Limits.{refusal, judged, uncounted, sizeTests, startTests, finalTests, eventTests, ruleTests, moveTests, tests};
-use line::Word;
+use modelline::Line;
+use modelline::Word;
+use numbers::Numbers;
 
 const SYMBOLS: u32 = 32;
 
@@ -26,10 +28,21 @@ pub struct Counts {
     pub moves: usize,
 }
 
-// The first test that holds decides: the line is misplaced, one of its numbers is outside its range, or it is one too many.
-fn first_of(misplaced: bool, first: bool, second: bool, third: bool, full: bool) -> u8
-    ensures { λ r. ⌜ r ≡ refusal (judged misplaced first second third full) ⌝ }
+// The first test that holds decides: the line is malformed or misplaced, one of its numbers is outside its range, or it is
+// one too many.
+fn first_of(
+    malformed: bool,
+    misplaced: bool,
+    first: bool,
+    second: bool,
+    third: bool,
+    full: bool,
+) -> u8
+    ensures { λ r. ⌜ r ≡ refusal (judged malformed misplaced first second third full) ⌝ }
 {
+    if malformed {
+        return 2;
+    }
     if misplaced {
         return 3;
     }
@@ -64,92 +77,114 @@ fn uncounted(most: u32, n: u32) -> bool
     either(n < 1, most < n)
 }
 
-fn size_refusal(k: Counts, g: u32, q: u32, e: u32) -> u8
-    ensures { λ r. ⌜ r ≡ refusal (sizeTests k g q e) ⌝ }
+fn size_refusal(k: Counts, n: Numbers) -> u8
+    ensures { λ r. ⌜ r ≡ refusal (sizeTests k n) ⌝ }
 {
+    let at = n.at;
     first_of(
+        n.count != 3,
         0 < k.symbols,
-        uncounted(SYMBOLS, g),
-        uncounted(STATES, q),
-        uncounted(EVENTS, e),
+        uncounted(SYMBOLS, at[0]),
+        uncounted(STATES, at[1]),
+        uncounted(EVENTS, at[2]),
         false,
     )
 }
 
-fn start_refusal(k: Counts, q: u32, g: u32) -> u8
-    ensures { λ r. ⌜ r ≡ refusal (startTests k q g) ⌝ }
+fn start_refusal(k: Counts, n: Numbers) -> u8
+    ensures { λ r. ⌜ r ≡ refusal (startTests k n) ⌝ }
 {
+    let at = n.at;
     let symbols = k.symbols as u32;
     let states = k.states as u32;
     first_of(
+        n.count != 2,
         either(symbols == 0, 0 < k.started),
-        states <= q,
-        symbols <= g,
+        states <= at[0],
+        symbols <= at[1],
         false,
         false,
     )
 }
 
-fn final_refusal(k: Counts, q: u32) -> u8
-    ensures { λ r. ⌜ r ≡ refusal (finalTests k q) ⌝ }
+fn final_refusal(k: Counts, n: Numbers) -> u8
+    ensures { λ r. ⌜ r ≡ refusal (finalTests k n) ⌝ }
 {
+    let at = n.at;
     let states = k.states as u32;
-    first_of(k.symbols == 0, states <= q, false, false, false)
+    first_of(
+        n.count != 1,
+        k.symbols == 0,
+        states <= at[0],
+        false,
+        false,
+        false,
+    )
 }
 
-fn event_refusal(k: Counts, g: u32, e: u32) -> u8
-    ensures { λ r. ⌜ r ≡ refusal (eventTests k g e) ⌝ }
+fn event_refusal(k: Counts, n: Numbers) -> u8
+    ensures { λ r. ⌜ r ≡ refusal (eventTests k n) ⌝ }
 {
+    let at = n.at;
     let symbols = k.symbols as u32;
     let events = k.events as u32;
-    first_of(symbols == 0, symbols <= g, events <= e, false, false)
+    first_of(
+        n.count != 2,
+        symbols == 0,
+        symbols <= at[0],
+        events <= at[1],
+        false,
+        false,
+    )
 }
 
-// The symbols that a rule does not push are 0, which is always in range.
-fn rule_refusal(k: Counts, g: u32, g1: u32, g2: u32) -> u8
-    ensures { λ r. ⌜ r ≡ refusal (ruleTests k g g1 g2) ⌝ }
+// By the count of symbols that a rule takes. Those that a line does not have are read as 0, which is always in range.
+fn rule_refusal(takes: usize, k: Counts, n: Numbers) -> u8
+    ensures { λ r. ⌜ r ≡ refusal (ruleTests takes k n) ⌝ }
 {
+    let at = n.at;
     let symbols = k.symbols as u32;
     first_of(
+        n.count != takes,
         symbols == 0,
-        symbols <= g,
-        symbols <= g1,
-        symbols <= g2,
+        symbols <= at[0],
+        symbols <= at[1],
+        symbols <= at[2],
         RULES <= k.rules,
     )
 }
 
-fn move_refusal(k: Counts, source: u32, event: u32, target: u32) -> u8
-    ensures { λ r. ⌜ r ≡ refusal (moveTests k source event target) ⌝ }
+fn move_refusal(k: Counts, n: Numbers) -> u8
+    ensures { λ r. ⌜ r ≡ refusal (moveTests k n) ⌝ }
 {
+    let at = n.at;
     let states = k.states as u32;
     let events = k.events as u32;
     first_of(
+        n.count != 3,
         k.symbols == 0,
-        states <= source,
-        events <= event,
-        states <= target,
+        states <= at[0],
+        events <= at[1],
+        states <= at[2],
         MOVES <= k.moves,
     )
 }
 
-// The number of the refusal of a line by its word and its first three numbers, 0 where it is taken. The words of a listing
-// are malformed here.
-pub fn refusal_of(k: Counts, w: Word, a: u32, b: u32, c: u32) -> u8
-    ensures { λ r. ⌜ r ≡ refusal (tests k w a b c) ⌝ }
+// The number of a line's refusal by its word and its numbers, 0 where it is taken.
+pub fn refusal_of(k: Counts, l: Line) -> u8
+    ensures { λ r. ⌜ r ≡ refusal (tests k (l .word) (l .numbers)) ⌝ }
 {
+    let w = l.word;
+    let n = l.numbers;
     match w {
-        Word::Size => size_refusal(k, a, b, c),
-        Word::Start => start_refusal(k, a, b),
-        Word::Final => final_refusal(k, a),
-        Word::Event => event_refusal(k, a, b),
-        Word::Exit => rule_refusal(k, a, 0, 0),
-        Word::Direct => rule_refusal(k, a, b, 0),
-        Word::Call => rule_refusal(k, a, b, c),
-        Word::Move => move_refusal(k, a, b, c),
-        Word::Safe => 2,
-        Word::Head => 2,
-        Word::Erase => 2,
-        Word::Malformed => 2,
+        Word::Size => size_refusal(k, n),
+        Word::Start => start_refusal(k, n),
+        Word::Final => final_refusal(k, n),
+        Word::Event => event_refusal(k, n),
+        Word::Exit => rule_refusal(1, k, n),
+        Word::Direct => rule_refusal(2, k, n),
+        Word::Call => rule_refusal(3, k, n),
+        Word::Move => move_refusal(k, n),
+        Word::Unknown => 2,
     }
 }

@@ -1,101 +1,96 @@
--- Whether the field that a text begins with is a word, byte by byte, and how long it is then. Assumes nothing.
+-- A text that begins with a word and a tab has the word for its first field. Assumes nothing.
 use mathlib.Core.Path.{_≡_, refl, ap, sym, _∙_}
-use mathlib.Core.Bool.{Bool, true, false, not, _&&_}
+use mathlib.Core.Bool.{Bool, true, false, not, _&&_, _||_}
 use mathlib.Core.List.{List, [], _∷_}
-use Prim.Native.Nat.{ℕ, zero, suc, _+_, _<_, _≤_}
-use native.Mathlib.Nat.{not-suc-le-zero, le-of-suc-le-suc}
+use Prim.Native.Nat.{ℕ, suc, _<_, _≤_}
 use native.Mathlib.Omega.{arith}
 use lib.Dec.{T, eqb, ltb}
-use lib.ListN.{length, getD, drop, drop-of-length-le, List·getD-eq-default}
-use borrow.Author.Tests.{eq-eqb, ne-eqb, eqb-true, eqb-false, ltb-true, ltb-false}
-use Rattle.text.specs.Split.{pick, sameBytes, without}
-use Rattle.text.proofs.Lists.{next}
+use lib.ListN.{length, getD, take, List·getD-eq-default}
+use borrow.Author.Tests.{eq-eqb, ne-eqb, eqb-true, ltb-true, ltb-false}
+use Rattle.text.specs.Split.{pick, first, sameBytes, without}
 use Rattle.text.proofs.Bytes.{same-equal}
-use Rattle.text.proofs.Stops.{there, either-a, either-b, either-next, either-end}
+use Rattle.text.proofs.Stops.{there, either-stop, at-a}
 use Rattle.numbers.specs.Field.{field}
-use Rattle.line.specs.Line.{Plain, size, start, final, event, exit, direct, call, move, safe, head, erase, wordOf, letters}
-use Rattle.line.specs.declared.Word.{Word}
-use Rattle.line.specs.declared.Word.the-variants.{Size, Start, Final, Event, Exit, Direct, Call, Move, Safe, Head, Erase, Malformed}
+use Rattle.line.specs.Line.{spells}
 
-without-at : (c : ℕ) (w : List ℕ) (i : ℕ) → T (without c w) → i < length w → getD w i 0 ≡ c → ⊥
-unfolding without
-without-at c [] i t h e = not-suc-le-zero h
-without-at c (b ∷ w) i t h e = go (without-at c w) (eqb b c) refl t i h e
+-- by the byte behind the word
+module _ (s w : List ℕ) where
+  pub too-short : length s ≤ length w → false ≡ spells s w
+  too-short h = rw (List·getD-eq-default s 0 h)
+
+  pub no-tab : (getD s (length w) 0 ≡ 9 → ⊥) → false ≡ spells s w
+  no-tab h = rw (ne-eqb _ _ h)
+
+  pub tabbed : getD s (length w) 0 ≡ 9 → sameBytes (take (length w) s) w ≡ spells s w
+  tabbed h = rw (eq-eqb _ _ h)
+
+-- a field ends before a tab or a line feed; past the end there stands a line feed
+abbrev stop : ℕ → Bool
+stop b = eqb b 9 || eqb b 10
+
+empty-same : (f : List ℕ) → sameBytes f [] ≡ eqb (length f) 0
+unfolding sameBytes
+empty-same [] = refl
+empty-same (b ∷ f) = sym (ne-eqb (suc (length f)) 0 (λ e. omega arith))
+
+and-true : (b : Bool) → (b && true) ≡ b
+and-true true = refl
+and-true false = refl
+
+and-false : (b : Bool) → (b && false) ≡ false
+and-false true = refl
+and-false false = refl
+
+-- a word, which has no tab and no line feed, is the first field if a field ends behind it
+spelled : (s w : List ℕ) → T (without 9 w) → T (without 10 w) → (stop (getD s (length w) 10) && sameBytes (take (length w) s) w) ≡ sameBytes (field s) w
+unfolding sameBytes first without
+spelled s [] p q = and-true (stop (getD s 0 10)) ∙ either-stop 9 10 s 0 ∙ sym (empty-same (field s))
+spelled [] (b ∷ w) p q = refl
+spelled (a ∷ s) (b ∷ w) p q = go (spelled s w) (eqb a b) refl p q
   where
-    go : ((i : ℕ) → T (without c w) → i < length w → getD w i 0 ≡ c → ⊥) → (d : Bool) → eqb b c ≡ d → T (not d && without c w)
-        → (i : ℕ) → i < suc (length w) → getD (b ∷ w) i 0 ≡ c → ⊥
-    go more false k t zero h e = eqb-false b c k e
-    go more false k t (suc i) h e = more i t (le-of-suc-le-suc h) e
+    -- the byte is another
+    other : eqb a b ≡ false → (y z : Bool) → eqb a 9 ≡ y → sameBytes (first 9 (pick z [] (a ∷ first 10 s))) (b ∷ w) ≡ false
+    other e y true k = refl
+    other e true false k = rw k
+    other e false false k = rw (k, e)
 
-module _ (s w : List ℕ) (i : ℕ) where
-  pub spelled-next : Plain w → i < length w → getD s i 10 ≡ getD w i 0 → sameBytes (field (drop i s)) (drop i w) ≡ sameBytes (field (drop (i + 1) s)) (drop (i + 1) w)
-  unfolding sameBytes
-  spelled-next p h e = go (ltb i (length s)) refl
+    go : (T (without 9 w) → T (without 10 w) → (stop (getD s (length w) 10) && sameBytes (take (length w) s) w) ≡ sameBytes (field s) w) → (x : Bool) → eqb a b ≡ x → T (without 9 (b ∷ w)) → T (without 10 (b ∷ w))
+        → (stop (getD s (length w) 10) && pick x (sameBytes (take (length w) s) w) false) ≡ sameBytes (field (a ∷ s)) (b ∷ w)
+    go more false e p q = and-false (stop (getD s (length w) 10)) ∙ sym (other e (eqb a 9) (eqb a 10) refl)
+    go more true e p q = same (eqb a 9) (eqb a 10) refl refl (rw (← eqb-true a b e) at p) (rw (← eqb-true a b e) at q)
+      where
+        same : (y z : Bool) → eqb a 9 ≡ y → eqb a 10 ≡ z → T (not y && without 9 w) → T (not z && without 10 w)
+            → (stop (getD s (length w) 10) && sameBytes (take (length w) s) w) ≡ sameBytes (first 9 (pick z [] (a ∷ first 10 s))) (b ∷ w)
+        same false false k l p q = rw (k, e) (more p q)
+
+-- what the answer tells of the fields of the line
+module _ (s w : List ℕ) (p : T (without 9 w)) (q : T (without 10 w)) {b : Bool} (e : b ≡ spells s w) where
+  pub begins : b ≡ true → (field s ≡ w) × (getD s (length w) 10 ≡ 9)
+  begins h = go (eqb (getD s (length w) 0) 9) refl (sym e ∙ h)
     where
-      go : (t : Bool) → ltb i (length s) ≡ t → sameBytes (field (drop i s)) (drop i w) ≡ sameBytes (field (drop (i + 1) s)) (drop (i + 1) w)
-      go false l = absurd (without-at 10 w i (p .1) h (sym e ∙ List·getD-eq-default s 10 (ltb-false _ _ l)))
-      go true l =
-          let k : i < length s = ltb-true _ _ l in
-          let q : getD s i 0 ≡ getD w i 0 = there s i 0 10 k ∙ e in
-          rw (either-next 9 10 s i k (λ x. without-at 9 w i (p .0) h (sym q ∙ x)) (λ x. without-at 10 w i (p .1) h (sym q ∙ x)), next w i h) (simp (eq-eqb _ _ q))
+      go : (t : Bool) → eqb (getD s (length w) 0) 9 ≡ t → (t && sameBytes (take (length w) s) w) ≡ true → (field s ≡ w) × (getD s (length w) 10 ≡ 9)
+      go true k same =
+          let tab : getD s (length w) 10 ≡ 9 = there s (length w) 10 0 (inside k) ∙ eqb-true _ _ k in
+          (same-equal (field s) w (sym (spelled s w p q) ∙ rw (tab, same)), tab)
+        where
+          inside : eqb (getD s (length w) 0) 9 ≡ true → length w < length s
+          inside k = within (ltb (length w) (length s)) refl
+            where
+              within : (t : Bool) → ltb (length w) (length s) ≡ t → length w < length s
+              within true l = ltb-true _ _ l
+              within false l = absurd (let z = sym (List·getD-eq-default s 0 (ltb-false _ _ l)) ∙ eqb-true _ _ k in omega arith)
+      go false k same = absurd (let z : _≡_ {A = ℕ} 0 1 = cc in omega arith)
 
-  pub spelled-not : i < length w → (getD s i 10 ≡ getD w i 0 → ⊥) → sameBytes (field (drop i s)) (drop i w) ≡ false
-  unfolding sameBytes
-  spelled-not h n = rw (next w i h) (go (ltb i (length s)) (eqb (getD s i 0) 9) (eqb (getD s i 0) 10) refl refl refl)
+  -- another word, if there is a tab behind the field
+  pub differs : b ≡ false → length (field s) < length (first 10 s) → sameBytes (field s) w ≡ false
+  differs h on = go (sameBytes (field s) w) refl
     where
-      go : (x y z : Bool) → ltb i (length s) ≡ x → eqb (getD s i 0) 9 ≡ y → eqb (getD s i 0) 10 ≡ z → sameBytes (field (drop i s)) (getD w i 0 ∷ drop (i + 1) w) ≡ false
-      go false y z p q r = rw (either-end 9 10 s i (ltb-false _ _ p))
-      go true true z p q r = rw (either-a 9 10 s i (ltb-true _ _ p) (eqb-true _ _ q))
-      go true false true p q r = rw (either-b 9 10 s i (ltb-true _ _ p) (eqb-true _ _ r))
-      go true false false p q r =
-          rw (either-next 9 10 s i (ltb-true _ _ p) (eqb-false _ _ q) (eqb-false _ _ r), ne-eqb (getD s i 0) (getD w i 0) (λ e. n (there s i 10 0 (ltb-true _ _ p) ∙ e)))
-
-  pub spelled-end : length w ≤ i → sameBytes (field (drop i s)) (drop i w) ≡ eqb (length (field (drop i s))) 0
-  unfolding sameBytes
-  spelled-end h = rw (drop-of-length-le w h) (go (field (drop i s)))
-    where
-      go : (f : List ℕ) → sameBytes f [] ≡ eqb (length f) 0
-      go [] = refl
-      go (b ∷ f) = sym (ne-eqb (suc (length f)) 0 (λ e. omega arith))
-
--- a word that is found is as long as the field
-abbrev Long : List ℕ → Word → Type 0
-Long f w = (letters w ≡ 0 → ⊥) → letters w ≡ length f
-
-or-else : (f w : List ℕ) (v o : Word) → letters v ≡ length w → Long f o → Long f (pick (sameBytes f w) v o)
-or-else f w v o l more = go (sameBytes f w) refl
-  where
-    go : (t : Bool) → sameBytes f w ≡ t → Long f (pick t v o)
-    go true e = λ n. l ∙ sym (ap length (same-equal f w e))
-    go false e = more
-
-pub word-long : (f : List ℕ) → Long f (wordOf f)
-unfolding wordOf
-word-long f =
-    or-else f size Size _ refl
-    (or-else f start Start _ refl
-    (or-else f final Final _ refl
-    (or-else f event Event _ refl
-    (or-else f exit Exit _ refl
-    (or-else f direct Direct _ refl
-    (or-else f call Call _ refl
-    (or-else f move Move _ refl
-    (or-else f safe Safe _ refl
-    (or-else f head Head _ refl
-    (or-else f erase Erase Malformed refl
-    (λ n. absurd (n refl))))))))))))
-
--- no letters: no word
-pub no-word : (w : Word) → letters w ≡ 0 → w ≡ Malformed
-no-word Size e = absurd (omega arith)
-no-word Start e = absurd (omega arith)
-no-word Final e = absurd (omega arith)
-no-word Event e = absurd (omega arith)
-no-word Exit e = absurd (omega arith)
-no-word Direct e = absurd (omega arith)
-no-word Call e = absurd (omega arith)
-no-word Move e = absurd (omega arith)
-no-word Safe e = absurd (omega arith)
-no-word Head e = absurd (omega arith)
-no-word Erase e = absurd (omega arith)
-no-word Malformed e = refl
+      go : (t : Bool) → sameBytes (field s) w ≡ t → t ≡ false
+      go false k = refl
+      go true k =
+          let tab : getD s (length w) 0 ≡ 9 = ap (λ f. getD s (length f) 0) (sym (same-equal (field s) w k)) ∙ at-a 9 10 s refl on in
+          both (stop (getD s (length w) 10)) (spelled s w p q ∙ k) (tabbed s w tab)
+        where
+          both : (x : Bool) → (x && sameBytes (take (length w) s) w) ≡ true → sameBytes (take (length w) s) w ≡ spells s w → _≡_ {A = Bool} true false
+          both true same r = sym same ∙ r ∙ sym e ∙ h
+          both false same r = sym same

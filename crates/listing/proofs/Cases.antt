@@ -8,12 +8,13 @@ use borrow.Author.Tests.{eq-eqb, ne-eqb}
 use Rattle.model.specs.declared.Model.{Model}
 use Rattle.model.proofs.Bounds.{few-heads, few-triples}
 use Rattle.fitting.specs.declared.Fit.{Fit}
-use Rattle.fitting.specs.Fits.{headsOf, triplesOf, fitOf, Fits}
-use Rattle.fitting.proofs.Tested.{is-invalid, is-short, is-well, heads-are, triples-are, tested-well}
+use Rattle.table.specs.declared.Size.{Size}
+use Rattle.fitting.specs.Fits.{sizeOf, headsOf, triplesOf, fitOf, Fits}
+use Rattle.fitting.proofs.Tested.{is-invalid, is-short, is-well, heads-are, triples-are, size-is, tested-well}
 use Rattle.product.specs.Table.{absent}
 use Rattle.rows.specs.State.{Ended, before}
 use Rattle.rows.specs.Lines.{startState, readText}
-use Rattle.listing.specs.Reading.{sizeOf, linesOf, refusedAs, answerOf, filled, headsLeft, triplesLeft, Reads}
+use Rattle.listing.specs.Reading.{linesOf, refusedAs, answerOf, filled, headsLeft, triplesLeft, Reads}
 use Rattle.listing.specs.declared.ListingRead.{ListingRead}
 use Rattle.listing.specs.declared.ListingRead.the-variants.{Accepted, Invalid, Short}
 
@@ -34,9 +35,10 @@ module _ (m : Model) (text hs ts : List ℕ) {f : Fit} (e : f ≡ fitOf m (lengt
   }
 
 -- where no fact has a rank, the lines of a text are those of a listing
-pub lines-read : (m : Model) (text : List ℕ) {e : Ended} → e ≡ readText (sizeOf m) (before (replicate 256 absent) (replicate 2048 absent)) text → e ≡ linesOf m text
+pub lines-read : (m : Model) (text : List ℕ) {z : Size} {e : Ended} → z ≡ sizeOf m
+    → e ≡ readText z (before (replicate 256 absent) (replicate 2048 absent)) text → e ≡ linesOf m text
 unfolding startState
-lines-read m text p = p
+lines-read m text is p = p ∙ ap (λ z. readText z (before (replicate 256 absent) (replicate 2048 absent)) text) is
 
 -- else the text is read
 module _ (m : Model) (text hs ts : List ℕ) (f : Fits m (length hs) (length ts)) {e : Ended} (is : e ≡ linesOf m text) where
@@ -73,6 +75,9 @@ module _ (m : Model) (text hs ts : List ℕ) {f : Fit} (k : f ≡ fitOf m (lengt
 
   pub triples-few : f .triples ≤ 2048
   triples-few = omega (arith, triples-are m (length hs) (length ts) k p q, few-triples m (fits .valid-model))
+
+  pub lines-after : {e : Ended} → e ≡ readText (f .size) (before (replicate 256 absent) (replicate 2048 absent)) text → e ≡ linesOf m text
+  lines-after = lines-read m text (size-is m (length hs) (length ts) k p q)
 
   module _ {e : Ended} (is : e ≡ linesOf m text) where
     pub refused-after : (e .refusal ≡ 0 → ⊥) → {r : ListingRead} → r ≡ refusedAs (e .refusal) (e .line) → Reads m text hs ts hs ts r

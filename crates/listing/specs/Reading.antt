@@ -5,9 +5,8 @@ use Prim.Native.Nat.{ℕ, zero, suc}
 use lib.Dec.{eqb}
 use lib.ListN.{length, getD, set}
 use Rattle.text.specs.Split.{pick}
-use Rattle.table.specs.declared.Size.{Size}
 use Rattle.model.specs.declared.Model.{Model}
-use Rattle.fitting.specs.Fits.{headsOf, triplesOf, tested}
+use Rattle.fitting.specs.Fits.{sizeOf, headsOf, triplesOf, tested}
 use Rattle.rows.specs.State.{Ended}
 use Rattle.rows.specs.Lines.{startState, readText}
 use Rattle.listing.specs.declared.ListingRead.{ListingRead}
@@ -31,9 +30,6 @@ value TooLong = 0
 value (Malformed line) = line
 value (Misplaced line) = line
 value (OutOfRange line) = line
-
-abbrev pub sizeOf : Model → Size
-sizeOf m = record { symbols = m .symbols; states = m .states }
 
 -- the lines of a listing
 abbrev pub linesOf : Model → List ℕ → Ended

@@ -2,8 +2,9 @@
 ghost use mathlib.Core.Path.{_≡_};
 ghost use Prim.Native.Nat.{ℕ, _≤_};
 ghost use lib.ListN.{length};
+ghost use Rattle.lent.specs.Lending.{modelIn};
 ghost use Rattle.listing.specs.Reading.{refusedAs, filled, Reads};
-use model::Model;
+use lent::Lent;
 use table::ABSENT;
 use table::Size;
 
@@ -48,8 +49,8 @@ fn copy(from: &[u16], to: &mut [u16], n: usize)
 }
 
 // The table of a listing, for a model: collected first, and copied into the two arrays where the whole is accepted.
-pub fn read_listing(m: Model, text: &[u8], heads: &mut [u16], triples: &mut [u16]) -> ListingRead
-    ensures { λ r. ⌜ Reads m (now (text .entry)) (now (heads .entry)) (now (triples .entry)) (now (heads .exit)) (now (triples .exit)) r ⌝ }
+pub fn read_listing(m: &Lent, text: &[u8], heads: &mut [u16], triples: &mut [u16]) -> ListingRead
+    ensures { λ r. ⌜ Reads (modelIn (now (m .entry))) (now (text .entry)) (now (heads .entry)) (now (triples .entry)) (now (heads .exit)) (now (triples .exit)) r ⌝ }
 {
     let fit = fitting::measure(m, heads.len(), triples.len());
     if fit.refusal == 6 {
@@ -58,10 +59,7 @@ pub fn read_listing(m: Model, text: &[u8], heads: &mut [u16], triples: &mut [u16
     if fit.refusal == 7 {
         return ListingRead::Short;
     }
-    let size = Size {
-        symbols: m.symbols,
-        states: m.states,
-    };
+    let size = fit.size;
     let mut headcells = [ABSENT; 256];
     let mut triplecells = [ABSENT; 2048];
     let r = rows::read_text(&mut headcells, &mut triplecells, size, text);

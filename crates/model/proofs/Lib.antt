@@ -1,5 +1,4 @@
 pub mod Steps
-pub mod Places
 pub mod Answers
 pub mod Valid
 pub mod Bounds

@@ -12,17 +12,19 @@ use Rattle.product.specs.Runs.{State, step}
 use Rattle.product.proofs.Lists.{and-left, and-right, T-true}
 use Rattle.product.proofs.Closed.{none-some, step-of, step-elim}
 use Rattle.model.specs.declared.Model.{Model}
-use Rattle.model.specs.Model.{rule, move, shown, nextAt, fits, productOf, Fits, Makes}
+use Rattle.model.specs.Model.{rule, move, shown, fitsAt, there, productOf, Fits, Makes}
 
 module _ (m : Model) (s : Step) where
-  fits-is : (q : ℕ) → T (fits m s q) → Fits m s q (symbol (rule m (s .by-rule)))
-  fits-is q t =
+  -- rule and move fit, by the rows alone
+  abbrev fit : ℕ → Bool
+  fit q = fitsAt (rule m (s .by-rule)) (move m (s .by-move)) (m .shows) q
+
+  fits-is : (q : ℕ) → T (there m s) → T (fit q) → Fits m s q (symbol (rule m (s .by-rule)))
+  fits-is q u v =
       let a : Bool = ltb (s .by-rule) (m .rules) in
       let b : Bool = ltb (s .by-move) (m .moves) in
       let c : Bool = eqb (move m (s .by-move) .source) q in
       let d : Bool = shown m (symbol (rule m (s .by-rule))) (move m (s .by-move) .event) in
-      let u : T (a && b) = and-left (a && b) (c && d) t in
-      let v : T (c && d) = and-right (a && b) (c && d) t in
       record {
         rule-there = ltb→lt (s .by-rule) (m .rules) (and-left a b u);
         move-there = ltb→lt (s .by-move) (m .moves) (and-right a b u);
@@ -31,30 +33,24 @@ module _ (m : Model) (s : Step) where
         seen = and-right c d v;
       }
 
-  is-fits : (q g : ℕ) → Fits m s q g → fits m s q ≡ true
-  is-fits q g h = rw (
+  -- the next state, where there is one
+  pub next-is : (q q′ : ℕ) → productOf m .next s q ≡ some q′ → Fits m s q (symbol (rule m (s .by-rule))) × (move m (s .by-move) .target ≡ q′)
+  next-is q q′ e = go (there m s) (fit q) refl refl e
+    where
+      go : (a b : Bool) → there m s ≡ a → fit q ≡ b → cond a (cond b (some (move m (s .by-move) .target)) none) none ≡ some q′
+          → Fits m s q (symbol (rule m (s .by-rule))) × (move m (s .by-move) .target ≡ q′)
+      go true true x y e = (fits-is q (rw x tt) (rw y tt), cc)
+      go true false x y e = none-some e
+      go false b x y e = none-some e
+
+  pub fits-next : (q g : ℕ) → Fits m s q g → productOf m .next s q ≡ some (move m (s .by-move) .target)
+  fits-next q g h = rw (
     lt-ltb (s .by-rule) (m .rules) (h .rule-there),
     lt-ltb (s .by-move) (m .moves) (h .move-there),
     eq-eqb (move m (s .by-move) .source) q (h .here),
     h .top,
     T-true (shown m g (move m (s .by-move) .event)) (h .seen),
   )
-
-  -- the next state, where there is one
-  pub next-is : (q q′ : ℕ) → productOf m .next s q ≡ some q′ → Fits m s q (symbol (rule m (s .by-rule))) × (move m (s .by-move) .target ≡ q′)
-  next-is q q′ e = go (fits m s q) refl e
-    where
-      go : (b : Bool) → fits m s q ≡ b → cond b (some (move m (s .by-move) .target)) none ≡ some q′
-          → Fits m s q (symbol (rule m (s .by-rule))) × (move m (s .by-move) .target ≡ q′)
-      go true x e = (fits-is q (rw x tt), cc)
-      go false x e = none-some e
-
-  -- by the rows alone, where rule and move are there
-  pub next-rows : s .by-rule < m .rules → s .by-move < m .moves → (q : ℕ) → productOf m .next s q ≡ nextAt (m .rulerows) (m .moverows) (m .shows) (s .by-rule) (s .by-move) q
-  next-rows i j q = rw (lt-ltb (s .by-rule) (m .rules) i, lt-ltb (s .by-move) (m .moves) j)
-
-  pub fits-next : (q g : ℕ) → Fits m s q g → productOf m .next s q ≡ some (move m (s .by-move) .target)
-  fits-next q g h = rw (is-fits q g h)
 
   -- a rule and a move make a step of the product exactly if the document says so
   pub step-is : (c d : State) → (step (productOf m) s c ≡ some d) ↔ Makes m s c d

@@ -1,8 +1,6 @@
--- The answers of the code as the theory has them, a rule and the state after a step; and what reading a row asks. Assumes nothing.
-use mathlib.Core.List.{List}
+-- The answers of the code as the theory has them, a rule and the state after a step. Assumes nothing.
 use mathlib.Core.Option.{Option, none, some}
-use Prim.Native.Nat.{ℕ, _<_, _≤_}
-use lib.ListN.{length}
+use Prim.Native.Nat.{ℕ}
 use Rattle.product.specs.Product as product
 use Rattle.product.specs.Product.{exit, direct, call}
 use Rattle.model.specs.declared.Rule.{Rule}
@@ -27,10 +25,3 @@ nextAs (some q) = To q
 abbrev pub landed : Next → Option ℕ
 landed Stuck = none
 landed (To q) = some q
-
--- rows of a few numbers, in an array no longer than the model's, and a place in a row
-pub record Rows (rows : List ℕ) (width i : ℕ) : Type 0 where
-  pub some-width : 1 ≤ width
-  pub small-width : width ≤ 4
-  pub in-width : i < width
-  pub few : length rows ≤ 1024

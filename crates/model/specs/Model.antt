@@ -50,11 +50,11 @@ fitsAt ρ μ shows q = eqb (μ .source) q && showsAt shows (symbol ρ) (μ .even
 abbrev pub nextAt : (rulerows moverows : List ℕ) → (shows : List Bool) → (r v q : ℕ) → Option ℕ
 nextAt rulerows moverows shows r v q = cond (fitsAt (ruleAt rulerows r) (moveAt moverows v) shows q) (some (moveAt moverows v .target)) none
 
--- rule and move are there, and fit
-abbrev pub fits : Model → Step → ℕ → Bool
-fits m s q = ltb (s .by-rule) (m .rules) && ltb (s .by-move) (m .moves) && fitsAt (rule m (s .by-rule)) (move m (s .by-move)) (m .shows) q
+-- the model has the rule and the move of a step
+abbrev pub there : Model → Step → Bool
+there m s = ltb (s .by-rule) (m .rules) && ltb (s .by-move) (m .moves)
 
--- The product of a model. What a step is stands in `next` alone.
+-- The product of a model. What a step is stands in `nextAt` alone, which the code's next state is too.
 abbrev pub productOf : Model → Product
 productOf m = record {
   symbols = m .symbols;
@@ -65,7 +65,7 @@ productOf m = record {
   rules = m .rules;
   moves = m .moves;
   rule = rule m;
-  next = λ s q. cond (fits m s q) (some (move m (s .by-move) .target)) none;
+  next = λ s q. cond (there m s) (nextAt (m .rulerows) (m .moverows) (m .shows) (s .by-rule) (s .by-move) q) none;
 }
 
 -- A rule and a move make a step from q with g on top: the rule's symbol is on top, the move starts at q, and g, on top before the step, shows the

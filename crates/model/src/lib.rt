@@ -46,12 +46,3 @@ pub enum Next {
     To(usize),
     Stuck,
 }
-
-mod rows; // the rule and the move of a row
-mod step; // the step that a rule and a move make
-mod range; // which records are valid
-
-pub use range::is_valid;
-pub use range::parts_valid;
-pub use rows::rule_at;
-pub use step::next_state;

@@ -47,3 +47,7 @@ numbersFrom n (f ∷ fs) = pick (eqb (push n (numberOf f) .count) 0) wrong (numb
 -- the numbers of the fields in order, `most` at the most, and zeros after them
 abbrev pub numbersOf : List (List ℕ) → Numbers
 numbersOf fs = numbersFrom wrong fs
+
+-- the i-th of them, from 0; one that is not there is 0
+abbrev pub nth : Numbers → ℕ → ℕ
+nth n i = getD (n .at) i 0

@@ -10,7 +10,7 @@ ghost use Rattle.numbers.specs.declared.Number.the-variants.{Bad};
 ghost use Rattle.numbers.specs.Digits.{front, digitsOf};
 
 // The most numbers that a run of fields may have.
-const MOST: usize = 4;
+pub const MOST: usize = 4;
 
 // The number that a field is.
 pub enum Number {

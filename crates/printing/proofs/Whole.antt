@@ -1,5 +1,5 @@
 -- The header and the whole listing as they are put, and what the public call answers in each case. Assumes nothing.
-use mathlib.Core.Path.{_≡_, ap₂, sym, _∙_}
+use mathlib.Core.Path.{_≡_, ap₂, sym, _∙_, subst, subst⁻¹}
 use mathlib.Core.Bool.{true, false}
 use mathlib.Core.List.{List, [], _∷_, _++_}
 use Prim.Native.Nat.{ℕ, zero, suc, _*_, _<_, _≤_}
@@ -10,7 +10,7 @@ use borrow.Author.Tests.{lt-ltb, le-ltb}
 use Rattle.text.specs.Split.{pick}
 use Rattle.product.specs.Table.{absent}
 use Rattle.product.proofs.Lists.{T-true, over-suc}
-use Rattle.line.specs.Line.{safe}
+use Rattle.listingline.specs.Line.{safe}
 use Rattle.table.specs.declared.Size.{Size}
 use Rattle.model.specs.declared.Model.{Model}
 use Rattle.model.specs.Valid.{valid}
@@ -19,10 +19,10 @@ use Rattle.printing.specs.declared.Kind.the-variants.{Head, Triple}
 use Rattle.printing.specs.declared.Written.{Written}
 use Rattle.printing.specs.declared.Written.the-variants.{Invalid, Short, Bytes, Cut}
 use Rattle.printing.specs.Listing.{lineBytes, presentIn, cellsBytes, headerBytes, listingBytes}
-use Rattle.printing.specs.Writing.{Writes, Rows, Counts, Whole, bytesOf, fitted}
+use Rattle.printing.specs.Writing.{Writes, Rows, Whole, bytesOf, fitted}
 use Rattle.fitting.specs.declared.Fit.{Fit}
-use Rattle.fitting.specs.Fits.{fitOf, Fits}
-use Rattle.fitting.proofs.Tested.{cells-fit, heads-are, triples-are, is-invalid, is-short, is-well, tested-well}
+use Rattle.fitting.specs.Fits.{sizeOf, fitOf, Fits}
+use Rattle.fitting.proofs.Tested.{cells-fit, heads-are, triples-are, size-is, is-invalid, is-short, is-well, tested-well}
 use Rattle.printing.proofs.Bytes.{line-short}
 use Rattle.text.specs.Put.{Put}
 use Rattle.text.proofs.Puts.{as-put, then-put, put-length}
@@ -83,8 +83,8 @@ module _ (m : Model) (rounds : ℕ) (hs ts out : List ℕ) {f : Fit} (e : f ≡ 
     fits : Fits m (length hs) (length ts)
     fits = is-well m (length hs) (length ts) e p q
 
-    pub whole : Whole (record { symbols = m .symbols; states = m .states }) (length hs) (length ts) (f .heads) (f .triples)
-    whole =
+    whole-of : Whole (sizeOf m) (length hs) (length ts) (f .heads) (f .triples)
+    whole-of =
         let w = fits in
         let s = valid-sizes m (w .valid-model) in
         let c = cells-fit m (T-true (valid m) (w .valid-model)) in
@@ -96,6 +96,13 @@ module _ (m : Model) (rounds : ℕ) (hs ts out : List ℕ) {f : Fit} (e : f ≡ 
           heads-are = a;
           triples-are = b;
         }
+
+    -- by the size that was measured
+    pub whole : Whole (f .size) (length hs) (length ts) (f .heads) (f .triples)
+    whole = subst⁻¹ (λ z. Whole z (length hs) (length ts) (f .heads) (f .triples)) (size-is m (length hs) (length ts) e p q) whole-of
+
+    pub put-whole : {after : List ℕ} {n : ℕ} → Put out after 0 n (listingBytes (f .size .symbols) (f .size .states) rounds hs ts) → Put out after 0 n (bytesOf m rounds hs ts)
+    put-whole {after} {n} = subst (λ (z : Size). Put out after 0 n (listingBytes (z .symbols) (z .states) rounds hs ts)) (size-is m (length hs) (length ts) e p q)
 
     module _ {after : List ℕ} {n : ℕ} (x : Put out after 0 n (bytesOf m rounds hs ts)) where
       writes : {w : Written} → w ≡ fitted (length (bytesOf m rounds hs ts)) (length out) → Writes m rounds hs ts out after w

@@ -7,7 +7,7 @@ use lib.ListN.{length, getD}
 use Rattle.text.specs.Split.{pick}
 use Rattle.product.specs.Lists.{upTo, over}
 use Rattle.product.specs.Table.{absent}
-use Rattle.line.specs.Line.{safe, head, erase}
+use Rattle.listingline.specs.Line.{safe, head, erase}
 use Rattle.printing.specs.declared.Kind.{Kind}
 use Rattle.printing.specs.declared.Kind.the-variants.{Head, Triple}
 

@@ -3,10 +3,11 @@ ghost use mathlib.Core.Path.{_≡_};
 ghost use Prim.Native.Nat.{ℕ, _+_, _-_, _≤_};
 ghost use lib.ListN.{length};
 ghost use Rattle.text.specs.Put.{Put};
+ghost use Rattle.lent.specs.Lending.{modelIn};
 ghost use Rattle.printing.specs.Listing.{cellBytes, ifPresent, presentIn, cellsBytes, headerBytes, listingBytes};
 ghost use Rattle.printing.specs.declared.Kind.the-variants.{Head, Triple};
 ghost use Rattle.printing.specs.Writing.{Writes, Cell, Rows, Counts, Whole};
-use model::Model;
+use lent::Lent;
 use table::ABSENT;
 use table::Size;
 
@@ -149,13 +150,13 @@ fn put_listing(
 
 // Writes the listing of the table into `out`, as much of it as has room.
 pub fn write_listing(
-    m: Model,
+    m: &Lent,
     rounds: u16,
     heads: &[u16],
     triples: &[u16],
     out: &mut [u8],
 ) -> Written
-    ensures { λ r. ⌜ Writes m rounds (now (heads .entry)) (now (triples .entry)) (now (out .entry)) (now (out .exit)) r ⌝ }
+    ensures { λ r. ⌜ Writes (modelIn (now (m .entry))) rounds (now (heads .entry)) (now (triples .entry)) (now (out .entry)) (now (out .exit)) r ⌝ }
 {
     let fit = fitting::measure(m, heads.len(), triples.len());
     if fit.refusal == 6 {
@@ -164,10 +165,7 @@ pub fn write_listing(
     if fit.refusal == 7 {
         return Written::Short;
     }
-    let size = Size {
-        symbols: m.symbols,
-        states: m.states,
-    };
+    let size = fit.size;
     let n = put_listing(out, size, rounds, heads, fit.heads, triples, fit.triples);
     if out.len() < n {
         return Written::Cut;

@@ -5,7 +5,15 @@ use mathlib.Core.List.{List}
 use Prim.Native.Nat.{ℕ, _<_, _≤_}
 use borrow.Author.Tests.{lt-ltb, le-ltb, eq-eqb, ne-eqb}
 use Rattle.product.specs.Table.{absent}
-use Rattle.ranking.specs.Rank.{largest, faultOf, Ranked}
+use Rattle.ranking.specs.Rank.{largest, faultOf, counted, Ranked}
+
+-- by the count of the line's numbers
+module _ (count takes fault : ℕ) where
+  pub miscounted : (count ≡ takes → ⊥) → 2 ≡ counted count takes fault
+  miscounted h = rw (ne-eqb _ _ h)
+
+  pub well-counted : count ≡ takes → {r : ℕ} → r ≡ fault → r ≡ counted count takes fault
+  well-counted h e = e ∙ rw (eq-eqb _ _ h)
 
 -- the fault of a fact's line
 module _ (begun held : ℕ) (inside : Bool) (rank : ℕ) where

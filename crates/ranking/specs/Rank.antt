@@ -5,15 +5,17 @@ use mathlib.Core.Path.{_≡_}
 use Prim.Native.Nat.{ℕ}
 use lib.Dec.{eqb, ltb}
 use Rattle.text.specs.Split.{pick}
+use Rattle.numbers.specs.Number.{nth}
+use Rattle.numbers.specs.declared.Numbers.{Numbers}
 use Rattle.product.specs.Table.{absent}
 use Rattle.table.specs.declared.Size.{Size}
-use Rattle.table.specs.Cells.{headIn, tripleIn}
+use Rattle.table.specs.Cells.{headIn, tripleIn, putHead, putTriple}
 
 -- the largest rank, and the most rounds
 abbrev pub largest : ℕ
 largest = 65534
 
--- Why a line with a fact is refused, and 0 if it is not: no `safe` before it, the fact is held already, its numbers are not inside their range, its
+-- Why the line of a fact is refused, and 0 if it is not: no `safe` before it, the fact is held already, its numbers are not inside their range, its
 -- rank is not. `held` is what stands in the fact's cell; a fact that has no cell is held as absent.
 unfoldable pub faultOf : (begun held : ℕ) → (inside : Bool) → (rank : ℕ) → ℕ
 faultOf begun held inside rank =
@@ -27,12 +29,24 @@ headInside z q g = ltb q (z .states) && ltb g (z .symbols)
 abbrev pub tripleInside : Size → (q g e : ℕ) → Bool
 tripleInside z q g e = ltb q (z .states) && ltb g (z .symbols) && ltb e (z .states)
 
--- of a head and of a triple
-abbrev pub headFault : Size → (begun : ℕ) → (cells : List ℕ) → (q g rank : ℕ) → ℕ
-headFault z begun cells q g n = faultOf begun (headIn (z .symbols) (z .states) cells q g) (headInside z q g) n
+-- a line with another count of numbers than its word takes is malformed, whatever else is wrong with it
+abbrev pub counted : (count takes fault : ℕ) → ℕ
+counted count takes fault = pick (eqb count takes) fault 2
 
-abbrev pub tripleFault : Size → (begun : ℕ) → (cells : List ℕ) → (q g e rank : ℕ) → ℕ
-tripleFault z begun cells q g e n = faultOf begun (tripleIn (z .symbols) (z .states) cells q g e) (tripleInside z q g e) n
+-- `head` state symbol rank
+abbrev pub headFault : Size → (begun : ℕ) → (cells : List ℕ) → Numbers → ℕ
+headFault z begun cells n = counted (n .count) 3 (faultOf begun (headIn (z .symbols) (z .states) cells (nth n 0) (nth n 1)) (headInside z (nth n 0) (nth n 1)) (nth n 2))
+
+abbrev pub headPut : Size → (cells : List ℕ) → Numbers → List ℕ
+headPut z cells n = putHead (z .symbols) (z .states) cells (nth n 0) (nth n 1) (nth n 2)
+
+-- `erase` state symbol endstate rank
+abbrev pub tripleFault : Size → (begun : ℕ) → (cells : List ℕ) → Numbers → ℕ
+tripleFault z begun cells n =
+    counted (n .count) 4 (faultOf begun (tripleIn (z .symbols) (z .states) cells (nth n 0) (nth n 1) (nth n 2)) (tripleInside z (nth n 0) (nth n 1) (nth n 2)) (nth n 3))
+
+abbrev pub triplePut : Size → (cells : List ℕ) → Numbers → List ℕ
+triplePut z cells n = putTriple (z .symbols) (z .states) cells (nth n 0) (nth n 1) (nth n 2) (nth n 3)
 
 -- the fault is answered, and without one the cells are as they are put
 pub record Ranked (before after : List ℕ) (fault : ℕ) (put : List ℕ) (r : ℕ) : Type 0 where

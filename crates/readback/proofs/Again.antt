@@ -15,7 +15,7 @@ use Rattle.product.specs.Table.{absent}
 use Rattle.table.specs.declared.Size.{Size}
 use Rattle.table.specs.Cells.{headIn, tripleIn, putHead, putTriple}
 use Rattle.table.proofs.Cells.{head-inside, triple-inside}
-use Rattle.line.specs.Line.{wordOf, head, erase}
+use Rattle.listingline.specs.Line.{lineBy, head, erase}
 use Rattle.rows.specs.State.{State}
 use Rattle.rows.specs.Lines.{goes, stepOf, headStep, tripleStep}
 use Rattle.ranking.specs.Rank.{largest, headInside, tripleInside}
@@ -27,7 +27,7 @@ use Rattle.printing.specs.declared.Kind.{Kind}
 use Rattle.printing.specs.declared.Kind.the-variants.{Head, Triple}
 use Rattle.printing.specs.Listing.{cellBytes, ifPresent, cellsBytes, presentIn}
 use Rattle.printing.proofs.Bytes.{present-same, count-more, count-none, cells-none, cells-more}
-use Rattle.readback.proofs.Back.{Leads, leads-none, leads-then, leads-line}
+use Rattle.readback.proofs.Back.{numbers, Leads, leads-none, leads-then, leads-line}
 
 -- the cells and the count of a kind in a state, and the state with others
 abbrev pub cellsIn : Kind → State → List ℕ
@@ -85,35 +85,35 @@ module _ (z : Size) (some-symbol : 1 ≤ z .symbols) (some-state : 1 ≤ z .stat
   not-early : s .begun ≡ 0 → ⊥
   not-early e = omega arith
 
-  head-line : i < Q * G → getD (s .headcells) i 0 ≡ absent → headStep z s (i / G) (i % G) rank ≡ goes (holding Head s (s .heads + 1) (set (s .headcells) i rank))
+  head-line : i < Q * G → getD (s .headcells) i 0 ≡ absent → headStep z s (numbers (i / G ∷ i % G ∷ rank ∷ [])) ≡ goes (holding Head s (s .heads + 1) (set (s .headcells) i rank))
   head-line l a =
       let q : i / G < Q = row-below i G Q some-symbol l in
       let g : i % G < G = mod-lt i some-symbol in
       let b : (headInside z (i / G) (i % G)) ≡ true = head-inside q g in
       let held : headIn G Q (s .headcells) (i / G) (i % G) ≡ absent = rw (head-inside q g, row-place i G) a in
-      sym (head-taken z s (i / G) (i % G) rank (fault-none (s .begun) _ _ rank not-early held b small) refl
+      sym (head-taken z s (numbers (i / G ∷ i % G ∷ rank ∷ [])) (fault-none (s .begun) _ _ rank not-early held b small) refl
       (let e : set (s .headcells) i rank ≡ putHead G Q (s .headcells) (i / G) (i % G) rank = rw (head-inside q g, row-place i G) in e))
 
   triple-line : i < Q * G * Q → getD (s .triplecells) i 0 ≡ absent
-      → tripleStep z s (i / Q / G) (i / Q % G) (i % Q) rank ≡ goes (holding Triple s (s .triples + 1) (set (s .triplecells) i rank))
+      → tripleStep z s (numbers (i / Q / G ∷ i / Q % G ∷ i % Q ∷ rank ∷ [])) ≡ goes (holding Triple s (s .triples + 1) (set (s .triplecells) i rank))
   triple-line l a =
       let q : i / Q / G < Q = row-below (i / Q) G Q some-symbol (row-below i Q (Q * G) some-state l) in
       let g : i / Q % G < G = mod-lt (i / Q) some-symbol in
       let e : i % Q < Q = mod-lt i some-state in
       let b : (tripleInside z (i / Q / G) (i / Q % G) (i % Q)) ≡ true = triple-inside q g e in
       let held : tripleIn G Q (s .triplecells) (i / Q / G) (i / Q % G) (i % Q) ≡ absent = rw (triple-inside q g e, row-place (i / Q) G, row-place i Q) a in
-      sym (triple-taken z s (i / Q / G) (i / Q % G) (i % Q) rank (fault-none (s .begun) _ _ rank not-early held b small) refl
+      sym (triple-taken z s (numbers (i / Q / G ∷ i / Q % G ∷ i % Q ∷ rank ∷ [])) (fault-none (s .begun) _ _ rank not-early held b small) refl
       (let x : set (s .triplecells) i rank ≡ putTriple G Q (s .triplecells) (i / Q / G) (i / Q % G) (i % Q) rank = rw (triple-inside q g e, row-place (i / Q) G, row-place i Q) in x))
 
   -- the line of one cell that is not held yet
   pub leads-cell : (kind : Kind) → i < many kind G Q → i < 2048 → getD (cellsIn kind s) i 0 ≡ absent
       → Leads z s (cellBytes kind G Q i rank) (holding kind s (counted kind s + 1) (set (cellsIn kind s) i rank))
-  unfolding wordOf sameBytes without stepOf
+  unfolding lineBy sameBytes without stepOf
   leads-cell Head l m a =
-      leads-line z s (holding Head s (s .heads + 1) (set (s .headcells) i rank)) head (i / G) (i % G ∷ rank ∷ []) refl refl tt tt (omega arith)
+      leads-line z s (holding Head s (s .heads + 1) (set (s .headcells) i rank)) head (i / G) (i % G ∷ rank ∷ []) (λ m. refl) tt tt (omega arith)
       (omega (arith, div-le-self i G), (omega (arith, mod-le i G), (omega arith, tt))) (head-line l a)
   leads-cell Triple l m a =
-      leads-line z s (holding Triple s (s .triples + 1) (set (s .triplecells) i rank)) erase (i / Q / G) (i / Q % G ∷ i % Q ∷ rank ∷ []) refl refl tt tt (omega arith)
+      leads-line z s (holding Triple s (s .triples + 1) (set (s .triplecells) i rank)) erase (i / Q / G) (i / Q % G ∷ i % Q ∷ rank ∷ []) (λ m. refl) tt tt (omega arith)
       (omega (arith, div-le-self i Q, div-le-self (i / Q) G), (omega (arith, div-le-self i Q, mod-le (i / Q) G), (omega (arith, mod-le i Q), (omega arith, tt)))) (triple-line l a)
 
 -- cells that are not yet filled, and one whose number stands there already

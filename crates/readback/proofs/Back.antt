@@ -1,13 +1,12 @@
 -- A line that was written is read back as its word and its numbers. Assumes nothing.
-use mathlib.Core.Path.{_≡_, refl, ap, sym, _∙_}
+use mathlib.Core.Path.{_≡_, refl, ap, _∙_}
 use mathlib.Core.List.{List, [], _∷_, _++_, append-nil, append-assoc, map}
 use Prim.Native.Nat.{ℕ, _+_, _-_, _<_, _≤_}
 use native.Mathlib.Omega.{arith}
-use lib.Dec.{T, eqb}
+use lib.Dec.{T}
 use lib.ListN.{length, replicate}
 use lib.Seq.{append-snoc}
-use borrow.Author.Tests.{eq-eqb}
-use Rattle.text.specs.Split.{pick, first, later, split, joined, without, Each}
+use Rattle.text.specs.Split.{first, later, split, joined, without, Each}
 use Rattle.numbers.specs.Number.{most}
 use Rattle.numbers.specs.Digits.{decimal}
 use Rattle.numbers.specs.declared.Numbers.{Numbers}
@@ -15,8 +14,8 @@ use Rattle.text.proofs.Split.{split-append, without-append}
 use Rattle.numbers.proofs.Back.{without-digits, numbers-back, fields-back}
 use Rattle.product.specs.Lists.{over}
 use Rattle.table.specs.declared.Size.{Size}
-use Rattle.line.specs.Line.{wordOf, wants, malformed, lineOf}
-use Rattle.line.specs.declared.Word.{Word}
+use Rattle.listingline.specs.Line.{said, lineBy, lineOf}
+use Rattle.listingline.specs.declared.Word.{Word}
 use Rattle.rows.specs.State.{State, Ended}
 use Rattle.rows.specs.Lines.{goes, ends, stepOf, readFrom, readLines}
 use Rattle.rows.proofs.Lines.{from-next}
@@ -39,14 +38,10 @@ fields-of w n ns h =
     ∙ split-append 9 w (joined 9 (decimal n) (map decimal ns)) h
     ∙ ap (λ l. w ∷ l) (fields-back n ns)
 
-line-of : (w : List ℕ) (n : ℕ) (ns : List ℕ) {k : Word} → wordOf w ≡ k → wants k ≡ length (n ∷ ns) → T (without 9 w) → length (n ∷ ns) ≤ most → Each (λ v. v < 100000) (n ∷ ns)
-    → lineOf (split 9 (w ++ over (n ∷ ns) field)) ≡ record { word = k; numbers = numbers (n ∷ ns) }
+line-of : (w : List ℕ) (n : ℕ) (ns : List ℕ) {k : Word} → ((m : Numbers) → lineBy w m ≡ said k m) → T (without 9 w) → length (n ∷ ns) ≤ most → Each (λ v. v < 100000) (n ∷ ns)
+    → lineOf (split 9 (w ++ over (n ∷ ns) field)) ≡ said k (numbers (n ∷ ns))
 unfolding lineOf
-line-of w n ns {k} e c h l s =
-    ap lineOf (fields-of w n ns h)
-    ∙ ap (λ x. pick (eqb (x .count) (wants (wordOf w))) (record { word = wordOf w; numbers = x }) malformed) (numbers-back (n ∷ ns) l s)
-    ∙ ap (λ x. pick (eqb (length (n ∷ ns)) (wants x)) (record { word = x; numbers = numbers (n ∷ ns) }) malformed) e
-    ∙ rw (eq-eqb (length (n ∷ ns)) (wants k) (sym c))
+line-of w n ns {k} e h l s = ap lineOf (fields-of w n ns h) ∙ ap (lineBy w) (numbers-back (n ∷ ns) l s) ∙ e _
 
 no-feed : (ns : List ℕ) → T (without 10 (over ns field))
 unfolding without
@@ -69,8 +64,8 @@ leads-then {z} {s} {t} {u} {a} {b} x y = record {
 }
 
 -- a line does what its word and numbers do
-module _ (z : Size) (s t : State) (w : List ℕ) (n : ℕ) (ns : List ℕ) {k : Word} (e : wordOf w ≡ k) (c : wants k ≡ length (n ∷ ns)) (h : T (without 9 w)) (g : T (without 10 w))
-    (l : length (n ∷ ns) ≤ most) (d : Each (λ v. v < 100000) (n ∷ ns)) (step : stepOf z s (record { word = k; numbers = numbers (n ∷ ns) }) ≡ goes t) where
+module _ (z : Size) (s t : State) (w : List ℕ) (n : ℕ) (ns : List ℕ) {k : Word} (e : (m : Numbers) → lineBy w m ≡ said k m) (h : T (without 9 w)) (g : T (without 10 w))
+    (l : length (n ∷ ns) ≤ most) (d : Each (λ v. v < 100000) (n ∷ ns)) (step : stepOf z s (said k (numbers (n ∷ ns))) ≡ goes t) where
   abbrev body : List ℕ
   body = w ++ over (n ∷ ns) field
 
@@ -79,7 +74,7 @@ module _ (z : Size) (s t : State) (w : List ℕ) (n : ℕ) (ns : List ℕ) {k : 
   bySplit i (l ∷ ls) = readFrom z i s l ls
 
   is : stepOf z s (lineOf (split 9 body)) ≡ goes t
-  is = ap (stepOf z s) (line-of w n ns e c h l d) ∙ step
+  is = ap (stepOf z s) (line-of w n ns e h l d) ∙ step
 
   pub leads-line : Leads z s (lineBytes w (n ∷ ns)) t
   unfolding lineBytes bySplit

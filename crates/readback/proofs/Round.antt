@@ -19,16 +19,16 @@ use Rattle.numbers.proofs.Decimals.{decimal-one, decimal-more}
 use Rattle.product.specs.Lists.{over}
 use Rattle.product.specs.Table.{absent}
 use Rattle.table.specs.declared.Size.{Size}
-use Rattle.line.specs.Line.{wordOf, safe, head, erase}
+use Rattle.listingline.specs.Line.{lineBy, safe, head, erase}
 use Rattle.model.specs.declared.Model.{Model}
 use Rattle.model.specs.Valid.{valid}
 use Rattle.model.proofs.Valid.{Sizes, valid-sizes}
 use Rattle.rows.specs.State.{State}
 use Rattle.listing.specs.declared.ListingRead.the-variants.{Accepted}
-use Rattle.fitting.specs.Fits.{headsOf, triplesOf, Fits}
+use Rattle.fitting.specs.Fits.{sizeOf, headsOf, triplesOf, Fits}
 use Rattle.ranking.specs.Rank.{largest}
 use Rattle.rows.specs.Lines.{startState, withHeader, ends, stepOf, agreement, finished, readLines, longest}
-use Rattle.listing.specs.Reading.{sizeOf, linesOf, filled, Reads}
+use Rattle.listing.specs.Reading.{linesOf, filled, Reads}
 use Rattle.fitting.proofs.Tested.{cells-fit}
 use Rattle.rows.proofs.Steps.{safe-taken}
 use Rattle.rows.proofs.Lines.{from-end, short-text}
@@ -39,7 +39,7 @@ use Rattle.printing.specs.Listing.{lineBytes, presentIn, cellBytes, ifPresent, 
 use Rattle.printing.specs.Writing.{bytesOf}
 use Rattle.printing.proofs.Bytes.{field, field-short, cells-within}
 use Rattle.printing.proofs.Whole.{present-few, header-short}
-use Rattle.readback.proofs.Back.{Leads, leads-then, leads-line}
+use Rattle.readback.proofs.Back.{numbers, Leads, leads-then, leads-line}
 use Rattle.readback.proofs.Again.{after, many, leads-cells}
 
 -- one digit, and two at the most
@@ -187,12 +187,12 @@ module _ (m : Model) (v : valid m ≡ true) (rounds : ℕ) (r : rounds ≤ large
   whole-state = after Triple heads-state ts (triplesOf m)
 
   leads-header : Leads (sizeOf m) startState (headerBytes rounds hs (headsOf m) ts (triplesOf m)) begun-state
-  unfolding headerBytes wordOf sameBytes without stepOf
+  unfolding headerBytes lineBy sameBytes without stepOf
   leads-header =
       let c = cells-fit m v in
-      leads-line (sizeOf m) startState begun-state safe rounds (H ∷ K ∷ []) refl refl tt tt (omega arith)
+      leads-line (sizeOf m) startState begun-state safe rounds (H ∷ K ∷ []) (λ m. refl) tt tt (omega arith)
       (omega arith, (omega (arith, c .heads, present-few hs (headsOf m)), (omega (arith, c .triples, present-few ts (triplesOf m)), tt)))
-      (sym (safe-taken startState rounds H K (start-none .0) r))
+      (sym (safe-taken startState (numbers (rounds ∷ H ∷ K ∷ [])) refl (start-none .0) r))
 
   leads-all : Leads (sizeOf m) startState (bytesOf m rounds hs ts) whole-state
   unfolding listingBytes

@@ -11,7 +11,7 @@ use borrow.Author.Tests.{eqb-true, eqb-false, lt-ltb, le-leb}
 use Rattle.text.specs.Split.{pick, first, later, split}
 use Rattle.product.specs.Lists.{upTo, all}
 use Rattle.product.proofs.Lists.{All-upTo, all-of, both}
-use Rattle.line.specs.Line.{lineOf}
+use Rattle.modelline.specs.Line.{lineOf}
 use Rattle.model.specs.Valid.{valid, ruleIn, moveIn}
 use Rattle.draft.specs.Draft.{Draft}
 use Rattle.reader.specs.declared.ModelRead.{ModelRead}

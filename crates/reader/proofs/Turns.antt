@@ -8,8 +8,8 @@ use lib.ListN.{length, replicate}
 use borrow.Author.Tests.{eq-eqb, ne-eqb, lt-ltb, le-ltb}
 use Rattle.text.specs.Split.{first, later, split}
 use Rattle.text.proofs.Split.{after, after-shorter, later-after, no-later, whole-piece}
-use Rattle.line.specs.declared.LineRead.{LineRead}
-use Rattle.line.specs.Line.{lineOf, lineAt}
+use Rattle.modelline.specs.declared.LineRead.{LineRead}
+use Rattle.modelline.specs.Line.{lineOf, lineAt}
 use Rattle.draft.specs.declared.Outline.{Outline}
 use Rattle.draft.specs.Draft.{Draft, Taken, whole}
 use Rattle.draft.specs.Lines.{takeLine}

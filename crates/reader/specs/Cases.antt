@@ -4,7 +4,7 @@ use Prim.Native.Nat.{ℕ, _+_}
 use lib.ListN.{take}
 use Rattle.product.specs.Lists.{over}
 use Rattle.product.specs.Product as product
-use Rattle.line.specs.Line.{size, start, final, event, exit, direct, call, move}
+use Rattle.modelline.specs.Line.{size, start, final, event, exit, direct, call, move}
 use Rattle.reader.specs.declared.Reading.{Reading}
 use Rattle.reader.specs.declared.Reading.the-variants.{Accepted, Malformed, Misplaced, OutOfRange}
 use Rattle.reader.specs.Says.{Said}

@@ -1,15 +1,16 @@
 -- What the lines of a model text say, gathered by kind, and when a record says exactly that. Assumes nothing.
-use mathlib.Core.Bool.{Bool, _&&_, _||_}
+use mathlib.Core.Bool.{_&&_, _||_}
 use mathlib.Core.List.{List, [], _∷_, _++_}
 use mathlib.Core.Path.{_≡_}
 use Prim.Native.Nat.{ℕ, _<_}
 use lib.Dec.{eqb}
-use lib.ListN.{getD}
 use Rattle.text.specs.Split.{first, later, split}
-use Rattle.line.specs.declared.Line.{Line}
-use Rattle.line.specs.declared.Word.{Word}
-use Rattle.line.specs.declared.Word.the-variants.{Size, Start, Final, Event, Exit, Direct, Call, Move, Safe, Head, Erase, Malformed}
-use Rattle.line.specs.Line.{lineOf}
+use Rattle.numbers.specs.Number.{nth}
+use Rattle.numbers.specs.declared.Numbers.{Numbers}
+use Rattle.modelline.specs.declared.Line.{Line}
+use Rattle.modelline.specs.declared.Word.{Word}
+use Rattle.modelline.specs.declared.Word.the-variants.{Size, Start, Final, Event, Exit, Direct, Call, Move, Unknown}
+use Rattle.modelline.specs.Line.{lineOf}
 use Rattle.product.specs.Lists.{upTo, each, any}
 use Rattle.product.specs.Product.{Rule, exit, direct, call}
 use Rattle.model.specs.declared.Move as declared
@@ -46,23 +47,20 @@ addRule s ρ = record { sizes = s .sizes; starts = s .starts; finals = s .finals
 abbrev pub addMove : Said → declared.Move → Said
 addMove s μ = record { sizes = s .sizes; starts = s .starts; finals = s .finals; events = s .events; rules = s .rules; moves = s .moves ++ μ ∷ [] }
 
--- one more line, by its word and its first three numbers
-abbrev pub more : Said → Word → (a b c : ℕ) → Said
-more s Size a b c = addSize s a b c
-more s Start a b c = addStart s a b
-more s Final a b c = addFinal s a
-more s Event a b c = addEvent s a b
-more s Exit a b c = addRule s (exit a)
-more s Direct a b c = addRule s (direct a b)
-more s Call a b c = addRule s (call a b c)
-more s Move a b c = addMove s (record { source = a; event = b; target = c })
-more s Safe a b c = s
-more s Head a b c = s
-more s Erase a b c = s
-more s Malformed a b c = s
+-- one more line, by its word and its numbers
+abbrev pub more : Said → Word → Numbers → Said
+more s Size n = addSize s (nth n 0) (nth n 1) (nth n 2)
+more s Start n = addStart s (nth n 0) (nth n 1)
+more s Final n = addFinal s (nth n 0)
+more s Event n = addEvent s (nth n 0) (nth n 1)
+more s Exit n = addRule s (exit (nth n 0))
+more s Direct n = addRule s (direct (nth n 0) (nth n 1))
+more s Call n = addRule s (call (nth n 0) (nth n 1) (nth n 2))
+more s Move n = addMove s (record { source = nth n 0; event = nth n 1; target = nth n 2 })
+more s Unknown n = s
 
 abbrev pub andLine : Said → Line → Said
-andLine s l = more s (l .word) (getD (l .numbers .at) 0 0) (getD (l .numbers .at) 1 0) (getD (l .numbers .at) 2 0)
+andLine s l = more s (l .word) (l .numbers)
 
 -- the pieces between line feeds, of which all but the last are lines
 abbrev pub gathered : Said → List ℕ → List (List ℕ) → Said

@@ -4,7 +4,7 @@ use Prim.Native.Nat.{ℕ, _+_}
 use lib.Dec.{eqb, ltb}
 use lib.ListN.{length}
 use Rattle.text.specs.Split.{pick, first, later, split}
-use Rattle.line.specs.Line.{lineOf}
+use Rattle.modelline.specs.Line.{lineOf}
 use Rattle.draft.specs.declared.Outline.{Outline}
 use Rattle.draft.specs.Draft.{Draft}
 use Rattle.draft.specs.Lines.{takeLine}

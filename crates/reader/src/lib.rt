@@ -138,7 +138,7 @@ fn read_lines(text: &[u8]) -> ModelRead
     let mut left = text;
     let mut n: usize = 1;
     while 0 < left.len() {
-        let l = line::read_line(left);
+        let l = modelline::read_line(left);
         let e = l.end;
         if left.len() <= e {
             return refused_with(Reading::Malformed(n));

@@ -7,11 +7,14 @@ use lib.Dec.{T}
 use borrow.Author.Tests.{not-true, not-false}
 use Rattle.product.specs.Lists.{find}
 use Rattle.product.specs.Product.{Product}
-use Rattle.product.specs.Facts.{Fact, first, pairs}
+use Rattle.product.specs.Facts.{Fact, head, first, pairs}
 use Rattle.product.specs.Check.{closedAt, clean, fails, openAt, checked}
 use Rattle.culprit.specs.Culprit.{cleanIn}
 use Rattle.culprit.proofs.Found.{clean-found}
+use Rattle.table.specs.declared.Size.{Size}
 use Rattle.model.specs.declared.Model.{Model}
+use Rattle.model.specs.declared.Shape.{Shape}
+use Rattle.lent.specs.Lending.{shapeIn, modelIn, productIn}
 use Rattle.model.specs.Model.{productOf}
 use Rattle.model.specs.Valid.{valid}
 use Rattle.model.proofs.Bounds.{start-state-in, start-symbol-in}
@@ -61,11 +64,11 @@ module _ (m : Model) (hs ts : List ℕ) {a : Bool} (sound : a ≡ valid m) where
         pub has-no-start : not c ≡ true → NoStart ≡ recheck m hs ts
         has-no-start n = sym (checks ∙ ap answer (starts-not (productOf m) (facts m hs ts) (failed start n)))
 
-        module _ (i : not c ≡ false) {d : Bool} (looked : d ≡ cleanIn (m .finals) (m .symbols) (m .states) hs ts (m .startstate) (m .startsymbol)) where
+        module _ (i : not c ≡ false) {d : Bool} (looked : d ≡ cleanIn (productOf m .final) (m .symbols) (m .states) hs ts (m .startstate) (m .startsymbol)) where
           clean-is : clean (productOf m) (facts m hs ts) ≡ d
           clean-is =
               let v : T (valid m) = rw (passed sound y) tt in
-              sym (clean-found (productOf m) (m .finals) (m .states) refl (λ _. refl) hs ts (start-state-in m v) (start-symbol-in m v)) ∙ sym looked
+              sym (clean-found (productOf m) (productOf m .final) (m .states) refl (λ _. refl) hs ts (start-state-in m v) (start-symbol-in m v)) ∙ sym looked
 
           pub has-violating : not d ≡ true → Violating ≡ recheck m hs ts
           has-violating n = sym (checks ∙ ap answer (violates (productOf m) (facts m hs ts) (passed start i) (clean-is ∙ not-true d n)))
@@ -79,3 +82,27 @@ module _ (m : Model) (hs ts : List ℕ) {a : Bool} (sound : a ≡ valid m) where
 
             pub is-accepted : f ≡ Nowhere → Accepted ≡ recheck m hs ts
             is-accepted e = sym (searched ∙ ap (λ o. answer (openAt o)) (found-none (openingOf m (facts m hs ts)) found e))
+
+-- what was answered by the shape that was read is so of the lent model
+module _ (cells hs ts : List ℕ) {s : Shape} (read : s ≡ shapeIn cells) where
+  abbrev size : Shape → Size
+  size s = record { symbols = s .symbols; states = s .states }
+
+  pub size-read : size s ≡ sizeOf (modelIn cells)
+  unfolding modelIn
+  size-read = ap size read
+
+  pub long-read : {b : Bool} → b ≡ longEnough (size s) hs ts → b ≡ longEnough (sizeOf (modelIn cells)) hs ts
+  long-read e = e ∙ ap (λ z. longEnough z hs ts) size-read
+
+  pub start-read : {b : Bool} → b ≡ inTable (size s) hs ts (head (s .startstate) (s .startsymbol)) → b ≡ facts (modelIn cells) hs ts (first (productIn cells))
+  unfolding modelIn
+  start-read e = e ∙ ap (λ (s : Shape). inTable (size s) hs ts (head (s .startstate) (s .startsymbol))) read
+
+  pub clean-read : {b : Bool} → b ≡ cleanIn (productIn cells .final) (s .symbols) (s .states) hs ts (s .startstate) (s .startsymbol)
+      → b ≡ cleanIn (productIn cells .final) (modelIn cells .symbols) (modelIn cells .states) hs ts (modelIn cells .startstate) (modelIn cells .startsymbol)
+  unfolding modelIn
+  clean-read e = e ∙ ap (λ (s : Shape). cleanIn (productIn cells .final) (s .symbols) (s .states) hs ts (s .startstate) (s .startsymbol)) read
+
+  pub found-read : {f : Found} → f ≡ foundAs (openingOf (modelIn cells) (inTable (size s) hs ts)) → f ≡ foundAs (openingOf (modelIn cells) (facts (modelIn cells) hs ts))
+  found-read e = e ∙ ap (λ z. foundAs (openingOf (modelIn cells) (inTable z hs ts))) size-read

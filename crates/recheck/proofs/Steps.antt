@@ -7,10 +7,8 @@ use Rattle.product.specs.Lists.{upTo, over, each, all, find, _∈_}
 use Rattle.product.specs.Product.{Step, ruleOf}
 use Rattle.product.specs.Facts.{Fact, waysTo, pairs}
 use Rattle.product.specs.Check.{keeps, closedAt}
-use Rattle.product.proofs.Lists.{All-over, All-each, All-at, upTo-lt}
 use Rattle.model.specs.declared.Model.{Model}
 use Rattle.model.specs.Model.{productOf}
-use Rattle.model.proofs.Steps.{next-rows}
 use Rattle.kept.specs.Kept.{nextKept}
 use Rattle.kept.proofs.Ways.{all-over, all-same, kept-is}
 use Rattle.recheck.specs.Tests.{stepKept, step, isClosed, isOpen}
@@ -21,24 +19,14 @@ module _ (m : Model) (t : Fact → Bool) where
   ways-kept s q none = refl
   ways-kept s q (some q′) = kept-is (m .states) t s q q′ (ruleOf (productOf m) s)
 
-  closed-is : (s : Step) → s .by-rule < m .rules → s .by-move < m .moves → closedAt (productOf m) t s ≡ isClosed (m .rulerows) (m .moverows) (m .shows) (m .states) t s
-  closed-is s i j =
+  closed-is : (s : Step) → closedAt (productOf m) t s ≡ isClosed (productOf m) (m .states) t s
+  closed-is s =
       all-over (keeps t) (upTo (m .states)) (λ q. waysTo (productOf m) s q (productOf m .next s q))
-      ∙ all-same (λ q. all (keeps t) (waysTo (productOf m) s q (productOf m .next s q))) (stepKept (m .rulerows) (m .moverows) (m .shows) (m .states) t (s .by-rule) (s .by-move)) (upTo (m .states))
-      (λ q. ways-kept s q (productOf m .next s q) ∙ ap (nextKept (m .states) t q (ruleOf (productOf m) s)) (next-rows m s i j q))
-
-  abbrev In : Step → Type 0
-  In s = (s .by-rule < m .rules) × (s .by-move < m .moves)
-
-  pairs-in : (s : Step) → s ∈ pairs (productOf m) → In s
-  pairs-in s =
-      All-at In (pairs (productOf m))
-      (All-over In (upTo (m .rules)) (λ r. each (upTo (m .moves)) (step r)) λ r i.
-      All-each In (upTo (m .moves)) (step r) λ v j. (upTo-lt (m .rules) r i, upTo-lt (m .moves) v j))
-      s
+      ∙ all-same (λ q. all (keeps t) (waysTo (productOf m) s q (productOf m .next s q))) (stepKept (productOf m) (m .states) t (s .by-rule) (s .by-move)) (upTo (m .states))
+      (λ q. ways-kept s q (productOf m .next s q))
 
   pub open-is : find (λ s. not (closedAt (productOf m) t s)) (pairs (productOf m))
-      ≡ find (isOpen (m .rulerows) (m .moverows) (m .shows) (m .states) t) (over (upTo (m .rules)) (λ r. each (upTo (m .moves)) (step r)))
+      ≡ find (isOpen (productOf m) (m .states) t) (over (upTo (m .rules)) (λ r. each (upTo (m .moves)) (step r)))
   open-is =
-      find-same (λ s. not (closedAt (productOf m) t s)) (isOpen (m .rulerows) (m .moverows) (m .shows) (m .states) t) (pairs (productOf m))
-      (λ s i. ap not (closed-is s (pairs-in s i .0) (pairs-in s i .1)))
+      find-same (λ s. not (closedAt (productOf m) t s)) (isOpen (productOf m) (m .states) t) (pairs (productOf m))
+      (λ s _. ap not (closed-is s))

@@ -2,7 +2,8 @@
 use mathlib.Core.Bool.{Bool, cond, not}
 use mathlib.Core.List.{List, [], _∷_}
 use Prim.Native.Nat.{ℕ}
-use lib.Dec.{eqb}
+use mathlib.Core.Path.{_≡_}
+use lib.Dec.{T, eqb}
 use lib.ListN.{length}
 use Rattle.product.specs.Facts.{Fact}
 use Rattle.product.specs.Check.{Checked, passes, fails, checked}
@@ -46,3 +47,9 @@ recheck m hs ts =
     cond (not (valid m)) Invalid
     (cond (not (longEnough (sizeOf m) hs ts)) Short
     (answer (checked (productOf m) (inTable (sizeOf m) hs ts))))
+
+-- what the search for a step asks: a valid model, its size, and arrays that hold its table
+pub record Fit (m : Model) (z : Size) (hs ts : List ℕ) : Type 0 where
+  pub valid-model : T (valid m)
+  pub size-is : z ≡ sizeOf m
+  pub long : T (longEnough (sizeOf m) hs ts)

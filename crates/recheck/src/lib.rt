@@ -1,8 +1,9 @@
 // The table check: whether the facts in two lent arrays show that no run violates. It knows the model and the definitions, and no decision.
 ghost use mathlib.Core.Path.{_≡_};
+ghost use Rattle.lent.specs.Lending.{modelIn};
 ghost use Rattle.recheck.specs.Recheck.{recheck};
 use crate::search::open_step;
-use model::Model;
+use lent::Lent;
 use table::Size;
 
 // The answer. specs/Recheck.antt gives the document's number and values of each.
@@ -25,28 +26,29 @@ mod facts; // the facts of the arrays as matrices
 mod search; // the first rule and move that are not closed
 
 // Accepts exactly if the start head is present, no violating fact is, and every consequence of every step is; else the first reason.
-pub fn check_table<'a>(m: Model, heads: &'a [u16], triples: &'a [u16]) -> Recheck
-    ensures { λ r. ⌜ r ≡ recheck m (now (heads .entry)) (now (triples .entry)) ⌝ }
+pub fn check_table<'a>(m: &'a Lent, heads: &'a [u16], triples: &'a [u16]) -> Recheck
+    ensures { λ r. ⌜ r ≡ recheck (modelIn (now (m .entry))) (now (heads .entry)) (now (triples .entry)) ⌝ }
 {
-    if !model::is_valid(m) {
+    if !lent::is_valid(m) {
         return Recheck::Invalid;
     }
+    let s = lent::shape(m);
     let size = Size {
-        symbols: m.symbols,
-        states: m.states,
+        symbols: s.symbols,
+        states: s.states,
     };
     if !table::long_enough(heads, triples, size) {
         return Recheck::Short;
     }
-    let q = m.startstate as usize;
-    let g = m.startsymbol as usize;
+    let q = s.startstate as usize;
+    let g = s.startsymbol as usize;
     if !kept::has_head(heads, size, q, g) {
         return Recheck::NoStart;
     }
-    if !culprit::is_clean(&m.finals, heads, triples, size, q, g) {
+    if !culprit::is_clean(m, heads, triples, size, q, g) {
         return Recheck::Violating;
     }
-    let found = open_step(m, heads, triples);
+    let found = open_step(m, heads, triples, size);
     match found {
         Found::At(r, v) => Recheck::Open(r, v),
         Found::Nowhere => Recheck::Accepted,

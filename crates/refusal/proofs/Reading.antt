@@ -9,7 +9,7 @@ use lib.ListN.{length}
 use lib.Seq.{sets}
 use borrow.Author.Tests.{ltb-false}
 use Rattle.text.specs.Split.{pick, first, later, split}
-use Rattle.line.specs.Line.{lineOf}
+use Rattle.modelline.specs.Line.{lineOf}
 use Rattle.model.specs.declared.Model.{Model}
 use Rattle.model.specs.Valid.{valid}
 use Rattle.text.specs.Put.{Put}

@@ -1,75 +1,59 @@
 -- A run of the machine: between two steps, what is left to replay from where it stands gives what was asked. Assumes nothing.
-use mathlib.Core.Bool.{Bool, true, false, cond, _&&_}
+use mathlib.Core.Bool.{Bool, true, false, cond}
 use mathlib.Core.List.{List, [], _∷_}
 use mathlib.Core.Option.{Option, none, some}
-use mathlib.Core.Path.{_≡_, refl, sym, ap, _∙_, subst}
+use mathlib.Core.Path.{_≡_, refl, sym, ap, _∙_, subst, subst⁻¹}
 use Prim.Native.Nat.{ℕ, suc, _+_, _<_, _≤_}
 use native.Mathlib.Numerals.{add-one}
 use native.Mathlib.Omega.{arith}
-use lib.Dec.{T, eqb, ltb, ltb→lt}
+use lib.Dec.{T}
 use lib.ListN.{length, getD, set, drop}
 use lib.Seq.{drop-cons, drop-length, drop-set-lt, getD-set-same}
 use Rattle.product.specs.Lists.{each}
-use Rattle.product.specs.Product as product
-use Rattle.product.specs.Product.{symbol, pushed, Step, Product, loaded}
-use Rattle.product.specs.Runs.{State, replaced, step}
+use Rattle.product.specs.Product.{pushed, Step, Product, InRange, loaded}
+use Rattle.product.specs.Runs.{State, step}
 use Rattle.product.specs.Replay.{replays, stops, replayFrom, replay}
-use Rattle.product.proofs.Lists.{and-right, All-map}
+use Rattle.product.proofs.Lists.{All-map}
 use Rattle.model.specs.declared.Model.{Model}
-use Rattle.model.specs.Model.{rule, move, final, fitsAt, productOf}
+use Rattle.model.specs.declared.Shape.{Shape}
+use Rattle.model.specs.Model.{rule, final, productOf}
+use Rattle.lent.specs.Lending.{shapeIn, modelIn, productIn}
 use Rattle.model.specs.Valid.{valid}
-use Rattle.model.proofs.Valid.{Sizes, valid-sizes, valid-move, product-in}
+use Rattle.model.proofs.Valid.{Sizes, valid-sizes, product-in}
 use Rattle.replay.specs.declared.Machine.{Machine}
 use Rattle.replay.specs.declared.Outcome.{Outcome}
 use Rattle.replay.specs.declared.Outcome.the-variants.{Moved, Blocked, Arrived}
 use Rattle.replay.specs.declared.Replayed.the-variants.{Accepted, Bad}
 use Rattle.replay.specs.Replay.{answered}
-use Rattle.replay.specs.Machine.{below, stepAt, Ready, machine, outcome, Held, Stepped, Ran}
+use Rattle.replay.specs.Machine.{below, Ready, machine, outcome, Held, Stepped, Ran}
 use Rattle.replay.specs.declared.Replayed.{Replayed}
 
 -- what the outcome of a step says of it
-module _ (finals : List Bool) (number : ℕ) where
+module _ (p : Product) (number : ℕ) where
   never : (x : Machine) {n : ℕ} {B : Type 0} (b : Bool) → cond b (Arrived x) (Moved x) ≡ Blocked n → B
   never x true e = let z : _≡_ {A = ℕ} 0 1 = cc in absurd (omega arith)
   never x false e = let z : _≡_ {A = ℕ} 0 1 = cc in absurd (omega arith)
 
-  was-blocked : (c : Option State) {n : ℕ} → outcome finals number c ≡ Blocked n → (c ≡ none) × (number ≡ n)
+  was-blocked : (c : Option State) {n : ℕ} → outcome p number c ≡ Blocked n → (c ≡ none) × (number ≡ n)
   was-blocked none e = (refl, cc)
-  was-blocked (some (q, w)) e = never (machine (q, w)) (getD finals q false) e
+  was-blocked (some (q, w)) e = never (machine (q, w)) (p .final q) e
 
   Led : Bool → Machine → Option State → Type 0
-  Led b x c = (w : List ℕ) × (c ≡ some (x .state, w)) × (length w ≡ x .depth) × (getD finals (x .state) false ≡ b)
+  Led b x c = (w : List ℕ) × (c ≡ some (x .state, w)) × (length w ≡ x .depth) × (p .final (x .state) ≡ b)
 
-  was-led : (b : Bool) (x : Machine) (c : Option State) → outcome finals number c ≡ cond b (Arrived x) (Moved x) → Led b x c
+  was-led : (b : Bool) (x : Machine) (c : Option State) → outcome p number c ≡ cond b (Arrived x) (Moved x) → Led b x c
   unfolding Led
   was-led b x none e = never x b (sym e)
-  was-led b x (some (q, w)) e = go b (getD finals q false) refl e
+  was-led b x (some (q, w)) e = go b (p .final q) refl e
     where
-      to : (b : Bool) → getD finals q false ≡ b → machine (q, w) ≡ x → Led b x (some (q, w))
+      to : (b : Bool) → p .final q ≡ b → machine (q, w) ≡ x → Led b x (some (q, w))
       to b f i = subst (λ (x : Machine). Led b x (some (q, w))) i (w, refl, refl, f)
 
-      go : (b b′ : Bool) → getD finals q false ≡ b′ → cond b′ (Arrived (machine (q, w))) (Moved (machine (q, w))) ≡ cond b (Arrived x) (Moved x) → Led b x (some (q, w))
+      go : (b b′ : Bool) → p .final q ≡ b′ → cond b′ (Arrived (machine (q, w))) (Moved (machine (q, w))) ≡ cond b (Arrived x) (Moved x) → Led b x (some (q, w))
       go true true f e = to true f cc
       go false false f e = to false f cc
       go true false f e = let z : _≡_ {A = ℕ} 0 1 = cc in absurd (omega arith)
       go false true f e = let z : _≡_ {A = ℕ} 0 1 = cc in absurd (omega arith)
-
--- a step by the rows is the step of the product
-same : (ρ : product.Rule) (w : List ℕ) (t : ℕ) (a b e f : Bool)
-    → replaced ρ w (cond (a && b && e) (cond f (some t) none) none) ≡ cond e (replaced ρ w (cond (a && b && f) (some t) none)) none
-same ρ w t true true true f = refl
-same ρ w t true true false f = refl
-same ρ w t true false true f = refl
-same ρ w t true false false f = refl
-same ρ w t false b true f = refl
-same ρ w t false b false f = refl
-
-step-same : (m : Model) (s : Step) (c : State) → stepAt (m .rulerows) (m .moverows) (m .shows) (m .rules) (m .moves) s c ≡ step (productOf m) s c
-unfolding step
-step-same m s (q, []) = refl
-step-same m s (q, g ∷ w) =
-    same (rule m (s .by-rule)) w (move m (s .by-move) .target) (ltb (s .by-rule) (m .rules)) (ltb (s .by-move) (m .moves)) (eqb (symbol (rule m (s .by-rule))) g)
-    (fitsAt (rule m (s .by-rule)) (move m (s .by-move)) (m .shows) q)
 
 -- how a replay goes on
 module _ (p : Product) (k : ℕ) (c : State) where
@@ -86,19 +70,13 @@ module _ (p : Product) (k : ℕ) (c : State) where
   ends true e = rw (e, replayFrom)
   ends false e = rw (e, replayFrom)
 
--- in a valid model a step asks no more than a cell above the top
-pub ready : (m : Model) → T (valid m) → (cells : List ℕ) (depth : ℕ) → depth < length cells
-    → Ready (m .rulerows) (m .moverows) (m .shows) (m .rules) (m .moves) cells depth
+-- in a valid model that is lent a step asks no more than a cell above the top
+pub ready : (m : Model) → T (valid m) → (cells : List ℕ) (depth : ℕ) → depth < length cells → Ready (productOf m) cells depth
 ready m t cells depth l =
     let z : Sizes m = valid-sizes m t in
+    let i : InRange (productOf m) = product-in m t in
     record {
-      symbols = λ r i. All-map (λ g. g < m .symbols) (λ g. g < 256) (λ g h. omega arith) (pushed (rule m r)) (product-in m t .rules-in r i .1);
-      states = λ v i.
-          let a : Bool = ltb (move m v .source) (m .states) in
-          let b : Bool = ltb (move m v .event) (m .events) in
-          let d : Bool = ltb (move m v .target) (m .states) in
-          let h : move m v .target < m .states = ltb→lt (move m v .target) (m .states) (and-right (a && b) d (valid-move m t v i)) in
-          omega arith;
+      symbols = λ s q q′ h. All-map (λ g. g < m .symbols) (λ g. g < 256) (λ g h. omega arith) (pushed (rule m (s .by-rule))) (i .rules-in (s .by-rule) (i .steps-in s q q′ h .0) .1);
       room = l;
     }
 
@@ -112,7 +90,7 @@ pub record Doing (m : Model) (steps cells₀ : List ℕ) (k : ℕ) (at : Machine
   pub final-now : final m (at .state) ≡ accepting
 
 module _ (m : Model) (steps : List ℕ) where
-  pub begins : (cells : List ℕ) → 0 < length cells
+  begins : (cells : List ℕ) → 0 < length cells
       → Doing m steps (set cells 0 (m .startsymbol)) 0 (record { state = m .startstate; depth = 1 }) (final m (m .startstate)) (set cells 0 (m .startsymbol))
   unfolding replay
   begins cells l = record {
@@ -138,7 +116,7 @@ module _ (m : Model) (steps : List ℕ) where
     asked l = rw (drop-cons steps k 0 l) at (now .to-do)
 
     abbrev Done : Outcome → List ℕ → Type 0
-    Done o cells′ = Stepped (m .finals) (k + 1) (at .depth) (stepAt (m .rulerows) (m .moverows) (m .shows) (m .rules) (m .moves) next here) cells o cells′
+    Done o cells′ = Stepped (productOf m) (k + 1) (at .depth) next here cells o cells′
 
     rest-after : k < length steps → {o : Outcome} (cells′ : List ℕ) → Done o cells′ → drop (length steps + 1) cells′ ≡ drop (length steps + 1) cells₀
     rest-after l cells′ did = did .rest (length steps + 1) (omega (arith, now .deep)) ∙ now .rest
@@ -147,7 +125,7 @@ module _ (m : Model) (steps : List ℕ) where
         → (b : Bool) {at′ : Machine} → o ≡ cond b (Arrived at′) (Moved at′) → Doing m steps cells₀ (k + 1) at′ b cells′
     unfolding Led
     turns l {o} {cells′} did i b {at′} e =
-        let (w, c, d, f) = was-led (m .finals) (k + 1) b at′ (stepAt (m .rulerows) (m .moverows) (m .shows) (m .rules) (m .moves) next here) (sym (did .came) ∙ e) in
+        let (w, c, d, f) = was-led (productOf m) (k + 1) b at′ (step (productOf m) next here) (sym (did .came) ∙ e) in
         let h : (below cells′ (length w) ≡ w) × (length w ≤ at .depth + 1) = subst (Held cells′ (at .depth)) c (did .held) in
         let stack : below cells′ (at′ .depth) ≡ w = ap (below cells′) (sym d) ∙ h .0 in
         record {
@@ -155,15 +133,15 @@ module _ (m : Model) (steps : List ℕ) where
           deep = omega (arith, h .1, now .deep);
           long = i ∙ now .long;
           rest = rest-after l cells′ did;
-          to-do = rw (add-one, stack) (sym (goes-on (productOf m) k here next later (sym (step-same m next here) ∙ c)) ∙ asked l);
+          to-do = rw (add-one, stack) (sym (goes-on (productOf m) k here next later c) ∙ asked l);
           final-now = f;
         }
 
     pub blocked : k < length steps → {o : Outcome} {cells′ : List ℕ} → Done o cells′ → {n : ℕ} → o ≡ Blocked n → Ran m steps cells₀ (Bad n) cells′
     blocked l {o} {cells′} did {n} e =
-        let (c, i) = was-blocked (m .finals) (k + 1) (stepAt (m .rulerows) (m .moverows) (m .shows) (m .rules) (m .moves) next here) (sym (did .came) ∙ e) in
+        let (c, i) = was-blocked (productOf m) (k + 1) (step (productOf m) next here) (sym (did .came) ∙ e) in
         record {
-          answer = rw (sym (asked l) ∙ breaks (productOf m) k here next later (sym (step-same m next here) ∙ c)) (ap Bad (sym i ∙ add-one k));
+          answer = rw (sym (asked l) ∙ breaks (productOf m) k here next later c) (ap Bad (sym i ∙ add-one k));
           rest = rest-after l cells′ did;
         }
 
@@ -179,5 +157,20 @@ module _ (m : Model) (steps : List ℕ) where
         said false = ap Bad (add-one k)
 
   -- the start symbol is put into the first cell before the run
-  pub from-start : (cells : List ℕ) {r : Replayed} {cells′ : List ℕ} → Ran m steps (set cells 0 (m .startsymbol)) r cells′ → Ran m steps cells r cells′
+  from-start : (cells : List ℕ) {r : Replayed} {cells′ : List ℕ} → Ran m steps (set cells 0 (m .startsymbol)) r cells′ → Ran m steps cells r cells′
   from-start cells h = record { answer = h .answer; rest = h .rest ∙ drop-set-lt (length steps + 1) cells 0 (m .startsymbol) (omega arith) }
+
+-- a run of the lent model, by the shape that was read
+module _ (cells steps stack : List ℕ) {s : Shape} (read : s ≡ shapeIn cells) where
+  abbrev begun : Shape → Bool → Type 0
+  begun s b = Doing (modelIn cells) steps (set stack 0 (s .startsymbol)) 0 (record { state = s .startstate; depth = 1 }) b (set stack 0 (s .startsymbol))
+
+  pub begins-lent : {b : Bool} → b ≡ productIn cells .final (s .startstate) → 0 < length stack → begun s b
+  unfolding modelIn
+  begins-lent e l =
+      subst⁻¹ (begun s) e
+      (subst⁻¹ (λ (s : Shape). begun s (productIn cells .final (s .startstate))) read (begins (modelIn cells) steps stack l))
+
+  pub ran-lent : {r : Replayed} {stack′ : List ℕ} → Ran (modelIn cells) steps (set stack 0 (s .startsymbol)) r stack′ → Ran (modelIn cells) steps stack r stack′
+  unfolding modelIn
+  ran-lent {r} {stack′} h = from-start (modelIn cells) steps stack (subst (λ (s : Shape). Ran (modelIn cells) steps (set stack 0 (s .startsymbol)) r stack′) read h)

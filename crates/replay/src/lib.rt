@@ -5,15 +5,18 @@ ghost use Prim.Native.Nat.{_≤_};
 ghost use lib.Dec.{eqb};
 ghost use lib.ListN.{length, replicate, drop};
 ghost use Rattle.product.specs.Product.{symbol, pushed, loaded};
+ghost use Rattle.lent.specs.Lending.{modelIn, productIn};
 ghost use Rattle.model.specs.Answers.{meant, nextAs};
 ghost use Rattle.replay.specs.Replay.{Replays};
-ghost use Rattle.replay.specs.Machine.{below, Room, Replaced, goesAt, stepAt, Ready, Stepped, Runs, Ran};
-use model::Model;
+ghost use Rattle.replay.specs.Machine.{below, Room, Replaced, goesAt, Ready, Stepped, Runs, Ran};
+use lent::Lent;
+use lent::is_final;
+use lent::is_valid;
+use lent::next_state;
+use lent::rule_at;
+use lent::shape;
 use model::Next;
 use model::Rule;
-use model::is_valid;
-use model::next_state;
-use model::rule_at;
 
 // The answer to a trace: accepted; refusals 6, 7 and 12, with the number of the bad step.
 pub enum Replayed {
@@ -68,49 +71,21 @@ fn replace(stack: &mut [u8], depth: usize, rule: Rule) -> usize
 }
 
 // The state after the stored step n from state q with g on top, or none: one that names no rule or move is no step.
-fn goes<'a>(
-    rulerows: &'a [u8; 1024],
-    moverows: &'a [u8; 384],
-    shows: &'a [bool; 512],
-    rules: usize,
-    moves: usize,
-    n: u16,
-    q: usize,
-    g: usize,
-) -> Next
-    ensures { λ o. ⌜ o ≡ nextAs (goesAt (now (rulerows .entry)) (now (moverows .entry)) (now (shows .entry)) rules moves (loaded n) q g) ⌝ }
+fn goes(m: &Lent, n: u16, q: usize, g: usize) -> Next
+    ensures { λ o. ⌜ o ≡ nextAs (goesAt (productIn (now (m .entry))) (loaded n) q g) ⌝ }
 {
     let r = (n / 128) as usize;
     let v = (n % 128) as usize;
-    if rules <= r {
+    if !replaces(rule_at(m, r), g) {
         return Next::Stuck;
     }
-    if moves <= v {
-        return Next::Stuck;
-    }
-    if !replaces(rule_at(rulerows, r), g) {
-        return Next::Stuck;
-    }
-    next_state(rulerows, moverows, shows, r, v, q)
+    next_state(m, r, v, q)
 }
 
 // One step of the machine, by the stored step n, which is the trace's step `number`.
-fn step<'a>(
-    rulerows: &'a [u8; 1024],
-    moverows: &'a [u8; 384],
-    shows: &'a [bool; 512],
-    finals: &'a [bool; 8],
-    rules: usize,
-    moves: usize,
-    stack: &mut [u8],
-    at: Machine,
-    n: u16,
-    number: usize,
-) -> Outcome
-    requires { ⌜ Ready (now rulerows) (now moverows) (now shows) rules moves (now stack) (at .depth) ⌝ }
-    ensures { λ o. ⌜ Stepped (now (finals .entry)) number (at .depth)
-        (stepAt (now (rulerows .entry)) (now (moverows .entry)) (now (shows .entry)) rules moves (loaded n)
-        (at .state, below (now (stack .entry)) (at .depth)))
+fn step(m: &Lent, stack: &mut [u8], at: Machine, n: u16, number: usize) -> Outcome
+    requires { ⌜ Ready (productIn (now m)) (now stack) (at .depth) ⌝ }
+    ensures { λ o. ⌜ Stepped (productIn (now (m .entry))) number (at .depth) (loaded n) (at .state, below (now (stack .entry)) (at .depth))
         (now (stack .entry)) o (now (stack .exit)) ⌝ }
 {
     let depth = at.depth;
@@ -118,16 +93,16 @@ fn step<'a>(
         return Outcome::Blocked(number);
     }
     let top = stack[depth - 1] as usize;
-    let next = goes(rulerows, moverows, shows, rules, moves, n, at.state, top);
+    let next = goes(m, n, at.state, top);
     match next {
         Next::Stuck => Outcome::Blocked(number),
         Next::To(q) => {
-            let rule = rule_at(rulerows, (n / 128) as usize);
+            let rule = rule_at(m, (n / 128) as usize);
             let reached = Machine {
                 state: q,
                 depth: replace(stack, depth, rule),
             };
-            if finals[q] {
+            if is_final(m, q) {
                 return Outcome::Arrived(reached);
             }
             Outcome::Moved(reached)
@@ -148,31 +123,21 @@ fn clear(stack: &mut [u8], count: usize)
 }
 
 // Runs the steps from the start. The outcome of the last decides; before any step, the start does.
-fn run(m: Model, steps: &[u16], stack: &mut [u8]) -> Replayed
-    requires { ⌜ Runs m (now steps) (now stack) ⌝ }
-    ensures { λ r. ⌜ Ran m (now (steps .entry)) (now (stack .entry)) r (now (stack .exit)) ⌝ }
+fn run(m: &Lent, steps: &[u16], stack: &mut [u8]) -> Replayed
+    requires { ⌜ Runs (modelIn (now m)) (now steps) (now stack) ⌝ }
+    ensures { λ r. ⌜ Ran (modelIn (now (m .entry))) (now (steps .entry)) (now (stack .entry)) r (now (stack .exit)) ⌝ }
 {
-    let start = m.startstate as usize;
-    stack[0] = m.startsymbol;
+    let s = shape(m);
+    let start = s.startstate as usize;
+    stack[0] = s.startsymbol;
     let mut at = Machine {
         state: start,
         depth: 1,
     };
-    let mut accepting = m.finals[start];
+    let mut accepting = is_final(m, start);
     let mut k: usize = 0;
     while k < steps.len() {
-        let outcome = step(
-            &m.rulerows,
-            &m.moverows,
-            &m.shows,
-            &m.finals,
-            m.rules,
-            m.moves,
-            stack,
-            at,
-            steps[k],
-            k + 1,
-        );
+        let outcome = step(m, stack, at, steps[k], k + 1);
         k += 1;
         match outcome {
             Outcome::Blocked(number) => {
@@ -195,8 +160,8 @@ fn run(m: Model, steps: &[u16], stack: &mut [u8]) -> Replayed
 }
 
 // Replays a stored trace over a stack that the caller lends.
-pub fn replay_steps(m: Model, steps: &[u16], stack: &mut [u8]) -> Replayed
-    ensures { λ r. ⌜ Replays m (now (steps .entry)) (now (stack .entry)) r (now (stack .exit)) ⌝ }
+pub fn replay_steps(m: &Lent, steps: &[u16], stack: &mut [u8]) -> Replayed
+    ensures { λ r. ⌜ Replays (modelIn (now (m .entry))) (now (steps .entry)) (now (stack .entry)) r (now (stack .exit)) ⌝ }
 {
     if !is_valid(m) {
         return Replayed::Invalid;

@@ -3,7 +3,7 @@
 use mathlib.Core.Bool.{Bool, true, false, cond}
 use mathlib.Core.List.{List, [], _∷_, _++_}
 use mathlib.Core.Option.{some}
-use mathlib.Core.Path.{_≡_, refl, ap, ap₂, sym, _∙_, subst}
+use mathlib.Core.Path.{_≡_, refl, ap, ap₂, sym, _∙_, subst, subst⁻¹}
 use Prim.Native.Nat.{ℕ, _+_, _*_, _<_, _≤_, min}
 use native.Mathlib.Nat.{mul-le-mul}
 use native.Mathlib.Omega.{arith}
@@ -40,7 +40,10 @@ use Rattle.printing.specs.Listing.{listingBytes}
 use Rattle.printing.specs.Writing.{bytesOf, fitted, Writes}
 use Rattle.violation.specs.Bytes.{room, shown, firstLine, violationBytes}
 use Rattle.violation.proofs.Lines.{lines-same}
-use Rattle.fitting.specs.Fits.{Fits}
+use Rattle.table.specs.declared.Size.{Size}
+use Rattle.fitting.specs.Fits.{sizeOf, Fits}
+use Rattle.lent.specs.Lending.{held, modelIn}
+use Rattle.lent.proofs.Packed.{lends}
 use Rattle.report.specs.Output.{tracedBytes, verdictBytes, answerBytes, modelOutput}
 use Rattle.report.specs.Told.{Told}
 use Rattle.printing.proofs.Front.{listing-front}
@@ -84,6 +87,19 @@ module _ (m : Model) (v : T (valid m)) where
   pub budget-is : m .symbols * m .states * (m .states + 1) ≡ bound (productOf m)
   budget-is = ap (λ q. m .symbols * q * (q + 1)) (sym (length-upTo (m .states)))
 
+-- by the size that was read
+module _ (m : Model) (v : T (valid m)) {z : Size} (read : z ≡ sizeOf m) where
+  pub fits-read : (z .symbols * z .states ≤ 256) × (z .symbols * z .states * (z .states + 1) ≤ 2304)
+  fits-read = subst⁻¹ (λ (z : Size). (z .symbols * z .states ≤ 256) × (z .symbols * z .states * (z .states + 1) ≤ 2304)) read (budget-fits m v)
+
+  pub is-read : z .symbols * z .states * (z .states + 1) ≡ bound (productOf m)
+  is-read = ap (λ (z : Size). z .symbols * z .states * (z .states + 1)) read ∙ budget-is m v
+
+-- a valid record, lent
+module _ (m : Model) (v : T (valid m)) (cells : List ℕ) (lent : modelIn cells ≡ held m) where
+  pub lent-put : {o p : List ℕ} {a b : ℕ} → Put o p a b (modelOutput (modelIn cells)) → Put o p a b (modelOutput m)
+  lent-put = as-put (ap modelOutput (lends m cells v lent))
+
 -- a verdict is no refusal but 9 and 10
 module _ (m : Model) where
   never-refused : (v : Verdict) (number : ℕ) (values : List ℕ) → number < 9 → refused number values ≡ tracedBy m room (verdict v) → ⊥
@@ -114,7 +130,7 @@ module _ (m : Model) (rm : List ℕ) {rm′ : List ℕ} (roomy : length rm ≡ r
   printed ss f whole j k h e =
       let n : shown (length rm′) k ≡ min (length ss) room = omega (arith, ap length f, length-sets rm 0 ss) in
       ap₂ (λ r n. violationBytes m whole j r n) f n
-      ∙ ap (λ x. firstLine whole j (min (length ss) room) ++ x) (lines-same (m .rulerows) (m .moverows) rm ss (min (length ss) room) (omega arith) (omega arith))
+      ∙ ap (λ x. firstLine whole j (min (length ss) room) ++ x) (lines-same (productOf m) rm ss (min (length ss) room) (omega arith) (omega arith))
       ∙ ap (λ b. violationBytes m b j ss (min (length ss) room)) (sym h)
 
   violation-bytes : (whole : Bool) (v : Verdict) (n k : ℕ) → toldAs whole n k ≡ tracedBy m room (verdict v) → rm′ ≡ sets rm 0 (stepsBy m (verdict v))

@@ -3,6 +3,7 @@ ghost use mathlib.Core.Path.{_≡_};
 ghost use Prim.Native.Nat.{ℕ};
 ghost use lib.Dec.{T};
 ghost use lib.ListN.{length};
+ghost use Rattle.lent.specs.Lending.{modelIn, productIn};
 ghost use Rattle.product.specs.Verdict.{bound};
 ghost use Rattle.model.specs.Model.{productOf};
 ghost use Rattle.model.specs.Valid.{valid};
@@ -11,15 +12,15 @@ ghost use Rattle.text.specs.Put.{Put};
 ghost use Rattle.printing.specs.Writing.{bytesOf};
 ghost use Rattle.report.specs.Output.{modelOutput, checkOutput};
 ghost use Rattle.report.specs.Told.{Told};
-use model::Model;
+use lent::Lent;
 use printing::Written;
 use trace::Traced;
 use violation::ROOM;
 
 // Puts the listing of a safe table. The record is valid and the arrays are long enough, so that it is never refused.
-fn put_safe(out: &mut [u8], m: Model, rounds: u16, heads: &[u16], triples: &[u16]) -> usize
-    requires { ⌜ Fits m (length (now heads)) (length (now triples)) ⌝ }
-    ensures { λ r. ⌜ Put (now (out .entry)) (now (out .exit)) 0 r (bytesOf m rounds (now (heads .entry)) (now (triples .entry))) ⌝ }
+fn put_safe(out: &mut [u8], m: &Lent, rounds: u16, heads: &[u16], triples: &[u16]) -> usize
+    requires { ⌜ Fits (modelIn (now m)) (length (now heads)) (length (now triples)) ⌝ }
+    ensures { λ r. ⌜ Put (now (out .entry)) (now (out .exit)) 0 r (bytesOf (modelIn (now (m .entry))) rounds (now (heads .entry)) (now (triples .entry))) ⌝ }
 {
     let w = printing::write_listing(m, rounds, heads, triples, out);
     match w {
@@ -34,14 +35,14 @@ fn put_safe(out: &mut [u8], m: Model, rounds: u16, heads: &[u16], triples: &[u16
 // too long.
 fn put_told(
     out: &mut [u8],
-    m: Model,
+    m: &Lent,
     told: Traced,
     heads: &[u16],
     triples: &[u16],
     steps: &[u16],
 ) -> usize
-    requires { ⌜ Told m told (now heads) (now triples) (now steps) ⌝ }
-    ensures { λ r. ⌜ Put (now (out .entry)) (now (out .exit)) 0 r (modelOutput m) ⌝ }
+    requires { ⌜ Told (modelIn (now m)) told (now heads) (now triples) (now steps) ⌝ }
+    ensures { λ r. ⌜ Put (now (out .entry)) (now (out .exit)) 0 r (modelOutput (modelIn (now (m .entry)))) ⌝ }
 {
     match told {
         Traced::Found(n, count) => violation::put_violation(out, m, true, n, steps, count),
@@ -54,19 +55,20 @@ fn put_told(
 }
 
 // The budget that is always enough.
-fn budget(m: Model) -> u32
-    requires { ⌜ T (valid m) ⌝ }
-    ensures { λ b. ⌜ b ≡ bound (productOf m) ⌝ }
+fn budget(m: &Lent) -> u32
+    requires { ⌜ T (valid (modelIn (now m))) ⌝ }
+    ensures { λ b. ⌜ b ≡ bound (productIn (now (m .entry))) ⌝ }
 {
-    let g = m.symbols as u32;
-    let q = m.states as u32;
+    let size = fitting::size_of(m);
+    let g = size.symbols as u32;
+    let q = size.states as u32;
     g * q * (q + 1)
 }
 
 // Decides a valid model and puts what is found.
-fn put_model(out: &mut [u8], m: Model) -> usize
-    requires { ⌜ T (valid m) ⌝ }
-    ensures { λ r. ⌜ Put (now (out .entry)) (now (out .exit)) 0 r (modelOutput m) ⌝ }
+fn put_model(out: &mut [u8], m: &Lent) -> usize
+    requires { ⌜ T (valid (modelIn (now m))) ⌝ }
+    ensures { λ r. ⌜ Put (now (out .entry)) (now (out .exit)) 0 r (modelOutput (modelIn (now (m .entry)))) ⌝ }
 {
     let mut heads = [0u16; 256];
     let mut triples = [0u16; 2048];
@@ -82,8 +84,8 @@ pub fn check_text(text: &[u8], out: &mut [u8]) -> usize
 {
     let seen = refusal::read_or_refuse(text, out);
     if seen.accepted {
-        let m = seen.model;
-        return put_model(out, m);
+        let m = lent::lend(seen.model);
+        return put_model(out, &m);
     }
     seen.end
 }

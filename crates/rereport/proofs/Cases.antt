@@ -5,7 +5,11 @@ use mathlib.Core.Path.{_≡_, ap, ap₂, sym, _∙_}
 use Prim.Native.Nat.{ℕ, _<_}
 use native.Mathlib.Omega.{arith}
 use lib.ListN.{length, replicate}
+use lib.Dec.{T}
 use Rattle.model.specs.declared.Model.{Model}
+use Rattle.model.specs.Valid.{valid}
+use Rattle.lent.specs.Lending.{held, modelIn}
+use Rattle.lent.proofs.Packed.{lends}
 use Rattle.reader.specs.Text.{readModel}
 use Rattle.refusal.specs.declared.Seen.{Seen}
 use Rattle.refusal.specs.Refusal.{unlessRefused, Seeing}
@@ -13,7 +17,7 @@ use Rattle.refusal.proofs.Reading.{accepted-put, refused-put}
 use Rattle.splitter.specs.Part.{listingOf, modelPart}
 use Rattle.fitting.specs.Fits.{Fits}
 use Rattle.listing.specs.declared.ListingRead.{ListingRead}
-use Rattle.listing.specs.Reading.{number, linesOf, headsLeft, triplesLeft, Reads}
+use Rattle.listing.specs.Reading.{number, Reads}
 use Rattle.listing.specs.declared.ListingRead.the-variants.{Invalid, Short}
 use Rattle.fitting.proofs.Tested.{tested-well}
 use Rattle.recheck.specs.declared.Recheck.{Recheck}
@@ -82,3 +86,8 @@ module _ (text : List ℕ) {part o p : List ℕ} {s : Seen} (k : part ≡ modelP
   pub unseen-put : s .accepted ≡ false → Put o p 0 (s .end) (recheckOutput text)
   unseen-put t =
       as-put (ap (λ part. unlessRefused (readModel part .reading) (output (listingOf text) (readModel part .model))) k) (refused-put x t (output (listingOf text) (readModel part .model)))
+
+-- a valid record, lent
+module _ (m : Model) (v : T (valid m)) (cells : List ℕ) (lent : modelIn cells ≡ held m) where
+  pub lent-put : (text hs ts : List ℕ) {o p : List ℕ} {a b : ℕ} → Put o p a b (listingOutput (modelIn cells) text hs ts) → Put o p a b (listingOutput m text hs ts)
+  lent-put text hs ts = as-put (ap (λ m. listingOutput m text hs ts) (lends m cells v lent))

@@ -10,7 +10,7 @@ use lib.Dec.{T, eqb, ltb}
 use lib.ListN.{length}
 use borrow.Author.Tests.{ltb-false, le-leb}
 use Rattle.text.specs.Split.{pick, first, later, split}
-use Rattle.line.specs.Line.{lineOf}
+use Rattle.listingline.specs.Line.{lineOf}
 use Rattle.product.specs.Lists.{All, upTo, each, find}
 use Rattle.product.specs.Product.{Step}
 use Rattle.product.specs.Facts.{Fact, first as start, pairs}
@@ -25,7 +25,6 @@ use Rattle.recheck.specs.declared.Recheck.{Recheck}
 use Rattle.recheck.specs.declared.Recheck.the-variants.{Accepted, Invalid, Short, NoStart, Violating, Open}
 use Rattle.recheck.specs.Recheck.{sizeOf, longEnough, inTable, answer, recheck}
 use Rattle.rows.specs.State.{State}
-use Rattle.listing.specs.declared.ListingRead.{ListingRead}
 use Rattle.listing.specs.declared.ListingRead.the-variants as listing
 use Rattle.rows.specs.Lines.{longest, startState, ends, stepOf, finished, readFrom, readText}
 use Rattle.listing.specs.Reading.{number, linesOf, refusedAs, answerOf}

@@ -1,14 +1,15 @@
 // What `pdrecheck` prints, from the text that it reads: the refusal of the model or of the listing behind it, or the answer of the table check.
 ghost use lib.Dec.{T};
 ghost use lib.ListN.{length, replicate};
+ghost use Rattle.lent.specs.Lending.{modelIn};
 ghost use Rattle.model.specs.Valid.{valid};
 ghost use Rattle.fitting.specs.Fits.{Fits};
 ghost use Rattle.text.specs.Put.{Put};
 ghost use Rattle.recheck.specs.Recheck.{recheck};
 ghost use Rattle.rereport.specs.Output.{openBytes, checkBytes, listingBytes, listingOutput, recheckOutput};
 ghost use Rattle.rereport.specs.Heard.{Heard};
+use lent::Lent;
 use listing::ListingRead;
-use model::Model;
 use recheck::Recheck;
 
 // Puts the line of a table that is not accepted.
@@ -20,9 +21,9 @@ fn put_open(out: &mut [u8], reason: u16, rule: u16, by: u16) -> usize
 }
 
 // Puts the answer of the table check. The record is valid and the arrays are long enough, so that it is never refused.
-fn put_checked<'a>(out: &mut [u8], m: Model, heads: &'a [u16], triples: &'a [u16]) -> usize
-    requires { ⌜ Fits m (length (now heads)) (length (now triples)) ⌝ }
-    ensures { λ r. ⌜ Put (now (out .entry)) (now (out .exit)) 0 r (checkBytes (recheck m (now (heads .entry)) (now (triples .entry)))) ⌝ }
+fn put_checked<'a>(out: &mut [u8], m: &'a Lent, heads: &'a [u16], triples: &'a [u16]) -> usize
+    requires { ⌜ Fits (modelIn (now m)) (length (now heads)) (length (now triples)) ⌝ }
+    ensures { λ r. ⌜ Put (now (out .entry)) (now (out .exit)) 0 r (checkBytes (recheck (modelIn (now (m .entry))) (now (heads .entry)) (now (triples .entry)))) ⌝ }
 {
     let c = recheck::check_table(m, heads, triples);
     match c {
@@ -38,13 +39,13 @@ fn put_checked<'a>(out: &mut [u8], m: Model, heads: &'a [u16], triples: &'a [u16
 // Puts the refusal of a listing, or the answer for the table that it left. That reading refuses neither the record nor the arrays.
 fn put_heard<'a>(
     out: &mut [u8],
-    m: Model,
+    m: &'a Lent,
     heard: ListingRead,
     heads: &'a [u16],
     triples: &'a [u16],
 ) -> usize
-    requires { ⌜ Heard m heard (length (now heads)) (length (now triples)) ⌝ }
-    ensures { λ r. ⌜ Put (now (out .entry)) (now (out .exit)) 0 r (listingBytes heard (recheck m (now (heads .entry)) (now (triples .entry)))) ⌝ }
+    requires { ⌜ Heard (modelIn (now m)) heard (length (now heads)) (length (now triples)) ⌝ }
+    ensures { λ r. ⌜ Put (now (out .entry)) (now (out .exit)) 0 r (listingBytes heard (recheck (modelIn (now (m .entry))) (now (heads .entry)) (now (triples .entry)))) ⌝ }
 {
     match heard {
         ListingRead::Accepted(_) => put_checked(out, m, heads, triples),
@@ -58,9 +59,9 @@ fn put_heard<'a>(
 }
 
 // Reads the listing of a valid model, checks it and puts the answer.
-fn put_listing(out: &mut [u8], m: Model, text: &[u8]) -> usize
-    requires { ⌜ T (valid m) ⌝ }
-    ensures { λ r. ⌜ Put (now (out .entry)) (now (out .exit)) 0 r (listingOutput m (now (text .entry)) (replicate 256 0) (replicate 2048 0)) ⌝ }
+fn put_listing(out: &mut [u8], m: &Lent, text: &[u8]) -> usize
+    requires { ⌜ T (valid (modelIn (now m))) ⌝ }
+    ensures { λ r. ⌜ Put (now (out .entry)) (now (out .exit)) 0 r (listingOutput (modelIn (now (m .entry))) (now (text .entry)) (replicate 256 0) (replicate 2048 0)) ⌝ }
 {
     let mut heads = [0u16; 256];
     let mut triples = [0u16; 2048];
@@ -75,8 +76,8 @@ pub fn recheck_text(text: &[u8], out: &mut [u8]) -> usize
     let at = splitter::listing_at(text);
     let seen = refusal::read_or_refuse(&text[..at], out);
     if seen.accepted {
-        let m = seen.model;
-        return put_listing(out, m, &text[at..]);
+        let m = lent::lend(seen.model);
+        return put_listing(out, &m, &text[at..]);
     }
     seen.end
 }

@@ -7,12 +7,11 @@ use lib.ListN.{length}
 use borrow.Author.Tests.{eq-eqb, ne-eqb, lt-ltb, le-ltb}
 use Rattle.text.specs.Split.{first, split}
 use Rattle.text.proofs.Split.{after, after-shorter, later-after, no-later, whole-piece}
-use Rattle.line.specs.Line.{lineOf, lineAt}
-use Rattle.line.specs.declared.LineRead.{LineRead}
+use Rattle.listingline.specs.Line.{lineOf, lineAt}
+use Rattle.listingline.specs.declared.LineRead.{LineRead}
 use Rattle.table.specs.declared.Size.{Size}
 use Rattle.rows.specs.declared.Tally.{Tally}
-use Rattle.rows.specs.declared.Tallied.{Tallied}
-use Rattle.rows.specs.State.{State, Step, Ended, whole, nothing, before, stepped, Counted}
+use Rattle.rows.specs.State.{State, Step, Ended, whole, nothing, before, Counted}
 use Rattle.rows.specs.Lines.{stepOf, ends, finished, readFrom, readLines, longest, readText}
 use Rattle.rows.proofs.Steps.{Fair, step-fair}
 

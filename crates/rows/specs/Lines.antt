@@ -2,16 +2,17 @@
 use mathlib.Core.List.{List, [], _∷_}
 use Prim.Native.Nat.{ℕ, _+_}
 use lib.Dec.{eqb, ltb}
-use lib.ListN.{length, getD, replicate}
+use lib.ListN.{length, replicate}
 use Rattle.text.specs.Split.{pick, first, later, split}
 use Rattle.product.specs.Table.{absent}
 use Rattle.table.specs.declared.Size.{Size}
-use Rattle.table.specs.Cells.{putHead, putTriple}
-use Rattle.ranking.specs.Rank.{largest, headFault, tripleFault}
-use Rattle.line.specs.Line.{lineOf}
-use Rattle.line.specs.declared.Line.{Line}
-use Rattle.line.specs.declared.Word.{Word}
-use Rattle.line.specs.declared.Word.the-variants as W
+use Rattle.ranking.specs.Rank.{largest, headFault, headPut, tripleFault, triplePut}
+use Rattle.numbers.specs.Number.{nth}
+use Rattle.numbers.specs.declared.Numbers.{Numbers}
+use Rattle.listingline.specs.Line.{lineOf}
+use Rattle.listingline.specs.declared.Line.{Line}
+use Rattle.listingline.specs.declared.Word.{Word}
+use Rattle.listingline.specs.declared.Word.the-variants.{Safe, Head, Erase, Unknown}
 use Rattle.rows.specs.State.{State, Step, Ended, before}
 
 -- before the first line no fact has a rank
@@ -62,55 +63,36 @@ triplesBy s cells = record {
   triplecells = cells;
 }
 
-abbrev pub withHead : Size → State → (q g rank : ℕ) → State
-withHead z s q g n = headsBy s (putHead (z .symbols) (z .states) (s .headcells) q g n)
-
-abbrev pub withTriple : Size → State → (q g e rank : ℕ) → State
-withTriple z s q g e n = triplesBy s (putTriple (z .symbols) (z .states) (s .triplecells) q g e n)
-
--- `safe` rounds heads triples: once, and the rounds in range
-unfoldable pub safeStep : State → (a b c : ℕ) → Step
-safeStep s a b c = pick (eqb (s .begun) 0) (pick (ltb largest a) (refuse 4 s) (goes (withHeader s a b c))) (refuse 3 s)
+-- `safe` rounds heads triples: its count of numbers, then once, then the rounds in range
+unfoldable pub safeStep : State → Numbers → Step
+safeStep s n =
+    pick (eqb (n .count) 3)
+    (pick (eqb (s .begun) 0)
+    (pick (ltb largest (nth n 0)) (refuse 4 s) (goes (withHeader s (nth n 0) (nth n 1) (nth n 2))))
+    (refuse 3 s))
+    (refuse 2 s)
 
 -- by the number of the fault
 abbrev pub unless : ℕ → State → State → Step
 unless fault s next = pick (eqb fault 0) (goes next) (refuse fault s)
 
 -- `head` state symbol rank
-unfoldable pub headStep : Size → State → (q g rank : ℕ) → Step
-headStep z s q g n =
-    unless (headFault z (s .begun) (s .headcells) q g n) s (withHead z s q g n)
+unfoldable pub headStep : Size → State → Numbers → Step
+headStep z s n = unless (headFault z (s .begun) (s .headcells) n) s (headsBy s (headPut z (s .headcells) n))
 
 -- `erase` state symbol endstate rank
-unfoldable pub tripleStep : Size → State → (q g e rank : ℕ) → Step
-tripleStep z s q g e n =
-    unless (tripleFault z (s .begun) (s .triplecells) q g e n) s (withTriple z s q g e n)
-
--- the words of a listing by number, 0 for any other
-abbrev pub listed : Word → ℕ
-listed W.Safe = 1
-listed W.Head = 2
-listed W.Erase = 3
-listed W.Size = 0
-listed W.Start = 0
-listed W.Final = 0
-listed W.Event = 0
-listed W.Exit = 0
-listed W.Direct = 0
-listed W.Call = 0
-listed W.Move = 0
-listed W.Malformed = 0
+unfoldable pub tripleStep : Size → State → Numbers → Step
+tripleStep z s n = unless (tripleFault z (s .begun) (s .triplecells) n) s (triplesBy s (triplePut z (s .triplecells) n))
 
 -- what a line does, by its word and its numbers
-abbrev pub stepBy : Size → State → (kind a b c d : ℕ) → Step
-stepBy z s kind a b c d =
-    pick (eqb kind 1) (safeStep s a b c)
-    (pick (eqb kind 2) (headStep z s a b c)
-    (pick (eqb kind 3) (tripleStep z s a b c d)
-    (refuse 2 s)))
+abbrev pub stepBy : Size → State → Word → Numbers → Step
+stepBy z s Safe n = safeStep s n
+stepBy z s Head n = headStep z s n
+stepBy z s Erase n = tripleStep z s n
+stepBy z s Unknown n = refuse 2 s
 
 unfoldable pub stepOf : Size → State → Line → Step
-stepOf z s l = stepBy z s (listed (l .word)) (getD (l .numbers .at) 0 0) (getD (l .numbers .at) 1 0) (getD (l .numbers .at) 2 0) (getD (l .numbers .at) 3 0)
+stepOf z s l = stepBy z s (l .word) (l .numbers)
 
 -- the reading has ended: refused with a number and a line, or 0 and 0
 abbrev pub ends : ℕ → ℕ → State → Ended

@@ -3,10 +3,11 @@ ghost use mathlib.Core.Path.{_≡_};
 ghost use Prim.Native.Nat.{ℕ, _≤_};
 ghost use lib.ListN.{length};
 ghost use mathlib.Core.List.{List};
-ghost use Rattle.rows.specs.Lines.{safeStep, headStep, tripleStep, listed, stepOf, agreement, finished, readLines, readText};
+ghost use Rattle.rows.specs.Lines.{safeStep, headStep, tripleStep, stepOf, agreement, finished, readLines, readText};
 ghost use Rattle.rows.specs.State.{nothing, whole, before, stepped, ended, Counted};
-use line::Line;
-use line::Word;
+use listingline::Line;
+use listingline::Word;
+use numbers::Numbers;
 use ranking::LARGEST;
 use table::Size;
 
@@ -52,16 +53,24 @@ fn nothing() -> Tally
 }
 
 // The header.
-fn take_safe(t: Tally, a: u32, b: u32, c: u32) -> Tallied
-    ensures { λ r. ⌜ ((hs ts : List ℕ) → stepped r hs ts ≡ safeStep (whole t hs ts) a b c) ⌝ }
+fn take_safe(t: Tally, n: Numbers) -> Tallied
+    ensures { λ r. ⌜ ((hs ts : List ℕ) → stepped r hs ts ≡ safeStep (whole t hs ts) n) ⌝ }
 {
+    if n.count != 3 {
+        return Tallied {
+            refusal: 2,
+            tally: t,
+        };
+    }
     if t.begun != 0 {
         return Tallied {
             refusal: 3,
             tally: t,
         };
     }
-    if LARGEST < a {
+    let at = n.at;
+    let rounds = at[0];
+    if LARGEST < rounds {
         return Tallied {
             refusal: 4,
             tally: t,
@@ -69,9 +78,9 @@ fn take_safe(t: Tally, a: u32, b: u32, c: u32) -> Tallied
     }
     let mut next = t;
     next.begun = 1;
-    next.rounds = a as u16;
-    next.headcount = b;
-    next.triplecount = c;
+    next.rounds = rounds as u16;
+    next.headcount = at[1];
+    next.triplecount = at[2];
     Tallied {
         refusal: 0,
         tally: next,
@@ -79,11 +88,11 @@ fn take_safe(t: Tally, a: u32, b: u32, c: u32) -> Tallied
 }
 
 // A head's line.
-fn take_head(heads: &mut [u16], size: Size, t: Tally, q: u32, g: u32, rank: u32) -> Tallied
+fn take_head(heads: &mut [u16], size: Size, t: Tally, n: Numbers) -> Tallied
     requires { ⌜ Counted t ⌝ }
-    ensures { λ r. ⌜ ((ts : List ℕ) → stepped r (now (heads .exit)) ts ≡ headStep size (whole t (now (heads .entry)) ts) q g rank) ⌝ }
+    ensures { λ r. ⌜ ((ts : List ℕ) → stepped r (now (heads .exit)) ts ≡ headStep size (whole t (now (heads .entry)) ts) n) ⌝ }
 {
-    let refusal = ranking::rank_head(heads, size, t.begun, q, g, rank);
+    let refusal = ranking::rank_head(heads, size, t.begun, n);
     if refusal != 0 {
         return Tallied { refusal, tally: t };
     }
@@ -96,19 +105,11 @@ fn take_head(heads: &mut [u16], size: Size, t: Tally, q: u32, g: u32, rank: u32)
 }
 
 // A triple's line.
-fn take_triple(
-    triples: &mut [u16],
-    size: Size,
-    t: Tally,
-    q: u32,
-    g: u32,
-    e: u32,
-    rank: u32,
-) -> Tallied
+fn take_triple(triples: &mut [u16], size: Size, t: Tally, n: Numbers) -> Tallied
     requires { ⌜ Counted t ⌝ }
-    ensures { λ r. ⌜ ((hs : List ℕ) → stepped r hs (now (triples .exit)) ≡ tripleStep size (whole t hs (now (triples .entry))) q g e rank) ⌝ }
+    ensures { λ r. ⌜ ((hs : List ℕ) → stepped r hs (now (triples .exit)) ≡ tripleStep size (whole t hs (now (triples .entry))) n) ⌝ }
 {
-    let refusal = ranking::rank_triple(triples, size, t.begun, q, g, e, rank);
+    let refusal = ranking::rank_triple(triples, size, t.begun, n);
     if refusal != 0 {
         return Tallied { refusal, tally: t };
     }
@@ -120,47 +121,21 @@ fn take_triple(
     }
 }
 
-// The words of a listing by number, 0 for any other.
-fn listed(w: Word) -> u8
-    ensures { λ r. ⌜ r ≡ listed w ⌝ }
-{
-    match w {
-        Word::Safe => 1,
-        Word::Head => 2,
-        Word::Erase => 3,
-        Word::Size => 0,
-        Word::Start => 0,
-        Word::Final => 0,
-        Word::Event => 0,
-        Word::Exit => 0,
-        Word::Direct => 0,
-        Word::Call => 0,
-        Word::Move => 0,
-        Word::Malformed => 0,
-    }
-}
-
 // What a line does.
 fn take_line(heads: &mut [u16], triples: &mut [u16], size: Size, t: Tally, l: Line) -> Tallied
     requires { ⌜ Counted t ⌝ }
     ensures { λ r. ⌜ stepped r (now (heads .exit)) (now (triples .exit)) ≡ stepOf size (whole t (now (heads .entry)) (now (triples .entry))) l ⌝ }
 {
     let w = l.word;
-    let numbers = l.numbers;
-    let n = numbers.at;
-    let kind = listed(w);
-    if kind == 1 {
-        return take_safe(t, n[0], n[1], n[2]);
-    }
-    if kind == 2 {
-        return take_head(heads, size, t, n[0], n[1], n[2]);
-    }
-    if kind == 3 {
-        return take_triple(triples, size, t, n[0], n[1], n[2], n[3]);
-    }
-    Tallied {
-        refusal: 2,
-        tally: t,
+    let n = l.numbers;
+    match w {
+        Word::Safe => take_safe(t, n),
+        Word::Head => take_head(heads, size, t, n),
+        Word::Erase => take_triple(triples, size, t, n),
+        Word::Unknown => Tallied {
+            refusal: 2,
+            tally: t,
+        },
     }
 }
 
@@ -201,7 +176,7 @@ fn read_lines(heads: &mut [u16], triples: &mut [u16], size: Size, text: &[u8]) -
     let mut rest = text;
     let mut line: usize = 1;
     while 0 < rest.len() {
-        let l = line::read_line(rest);
+        let l = listingline::read_line(rest);
         let e = l.end;
         if rest.len() <= e {
             return End {

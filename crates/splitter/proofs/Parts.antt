@@ -12,7 +12,7 @@ use lib.Seq.{take-append-le}
 use borrow.Author.Tests.{eqb-true}
 use Rattle.text.specs.Split.{pick, first, later, split, sameBytes, Each}
 use Rattle.text.proofs.Split.{first-take}
-use Rattle.line.specs.Line.{safe}
+use Rattle.listingline.specs.Line.{safe}
 use Rattle.splitter.specs.Part.{startsSafe, placeFrom, place, listingOf, modelPart}
 use Rattle.splitter.proofs.Place.{too-short}
 

@@ -13,7 +13,7 @@ use lib.ListN.{length, getD, take, drop, drop-of-length-le, length-drop}
 use Rattle.text.specs.Split.{pick, sameBytes}
 use Rattle.text.proofs.Lists.{next, tail-part}
 use Rattle.text.proofs.Bytes.{same-equal}
-use Rattle.line.specs.Line.{safe}
+use Rattle.listingline.specs.Line.{safe}
 use Rattle.splitter.specs.Part.{startsSafe, placeFrom, place, listingOf, modelPart}
 use Rattle.splitter.specs.Search.{safeBehind, safeAt, letterOf}
 

@@ -5,7 +5,7 @@ use Prim.Native.Nat.{ℕ, suc}
 use lib.Dec.{eqb}
 use lib.ListN.{take, drop}
 use Rattle.text.specs.Split.{pick, sameBytes}
-use Rattle.line.specs.Line.{safe}
+use Rattle.listingline.specs.Line.{safe}
 
 -- the first four bytes are the word
 abbrev pub startsSafe : List ℕ → Bool

@@ -1,7 +1,7 @@
 -- The matrices of the events, move by move. Assumes nothing.
 use mathlib.Core.Bool.{Bool, true, false, cond, _&&_, _||_}
 use mathlib.Core.List.{List}
-use mathlib.Core.Path.{_≡_, refl, sym, ap, ap₂, _∙_, subst, subst⁻¹}
+use mathlib.Core.Path.{_≡_, refl, sym, ap, _∙_, subst, subst⁻¹}
 use Prim.Native.Nat.{ℕ, _+_, _*_, _/_, _%_, _^_, _<_, _≤_, min}
 use native.Mathlib.Decide.{ℕ-discrete}
 use native.Mathlib.Nat.{mod-lt, div-add-mod', div-lt-iff-lt-mul}
@@ -18,7 +18,9 @@ use Rattle.bits.specs.Bit.{bit}
 use Rattle.bits.specs.Matrix.{some}
 use Rattle.bits.proofs.Bit.{bit-or, bit-zero}
 use Rattle.bits.proofs.Set.{bit-pow, one-shifted}
-use Rattle.model.specs.Model.{moveAt}
+use Rattle.model.specs.declared.Model.{Model}
+use Rattle.model.specs.declared.Move.{Move}
+use Rattle.model.specs.Model.{move}
 use Rattle.steps.specs.Steps.{matrix}
 use Rattle.steps.specs.Events.{moveBy, eventSteps, withMove}
 use Rattle.steps.proofs.Words.{word-bits, is-word, gathered-at, is-gathered, zeros-at}
@@ -124,33 +126,33 @@ and-or true b c = refl
 and-or false b c = refl
 
 -- the moves before v are entered
-module _ (rows : List ℕ) where
+module _ (M : Model) where
   abbrev pub Entered : (v : ℕ) → List ℕ → Type 0
-  Entered v on = (length on ≡ 16) × ((d i : ℕ) → d < 16 → bit (getD on d 0) i ≡ ltb i 64 && some v (λ w. moveBy rows d w (i / 8) (i % 8)))
+  Entered v on = (length on ≡ 16) × ((d i : ℕ) → d < 16 → bit (getD on d 0) i ≡ ltb i 64 && some v (λ w. moveBy M d w (i / 8) (i % 8)))
 
   pub entered-none : Entered 0 (replicate {A = ℕ} 16 0)
   entered-none = (refl, λ d i _. ap (λ n. bit n i) (zeros-at 16 d) ∙ bit-zero i ∙ sym (and-false (ltb i 64)))
 
-  pub entered-more : (v : ℕ) (on on′ : List ℕ) {q e x : ℕ} → q ≡ moveAt rows v .source → e ≡ moveAt rows v .event → x ≡ moveAt rows v .target
-      → Entered v on → on′ ≡ withMove on q e x → Entered (v + 1) on′
-  entered-more v on on′ {q} {e} {x} a b c (long, at) is = (
-    ap length is ∙ length-with on q e x ∙ long,
+  pub entered-more : (v : ℕ) (on on′ : List ℕ) {μ : Move} → μ ≡ move M v
+      → Entered v on → on′ ≡ withMove on (μ .source) (μ .event) (μ .target) → Entered (v + 1) on′
+  entered-more v on on′ {μ} by (long, at) is = (
+    ap length is ∙ length-with on (μ .source) (μ .event) (μ .target) ∙ long,
     λ d i l. rw add-one
-        (ap (λ xs. bit (getD xs d 0) i) (is ∙ ap₂ (λ q x. withMove on q e x) a c ∙ ap (λ e. withMove on (moveAt rows v .source) e (moveAt rows v .target)) b)
-        ∙ with-move on (moveAt rows v .source) (moveAt rows v .event) (moveAt rows v .target) long d i l
-        ∙ ap (λ z. z || (ltb i 64 && moveBy rows d v (i / 8) (i % 8))) (at d i l)
-        ∙ and-or (ltb i 64) (some v (λ w. moveBy rows d w (i / 8) (i % 8))) (moveBy rows d v (i / 8) (i % 8))),
+        (ap (λ xs. bit (getD xs d 0) i) (is ∙ ap (λ (μ : Move). withMove on (μ .source) (μ .event) (μ .target)) by)
+        ∙ with-move on (move M v .source) (move M v .event) (move M v .target) long d i l
+        ∙ ap (λ z. z || (ltb i 64 && moveBy M d v (i / 8) (i % 8))) (at d i l)
+        ∙ and-or (ltb i 64) (some v (λ w. moveBy M d w (i / 8) (i % 8))) (moveBy M d v (i / 8) (i % 8))),
   )
 
-  pub entered-all : (v moves : ℕ) (on : List ℕ) → v ≡ min moves 128 → Entered v on → on ≡ eventSteps rows moves
+  pub entered-all : (v moves : ℕ) (on : List ℕ) → v ≡ min moves 128 → Entered v on → on ≡ eventSteps M moves
   unfolding eventSteps
   entered-all v moves on e (long, at) =
-      is-gathered 16 (λ d. matrix (λ q x. some (min moves 128) (λ w. moveBy rows d w q x))) on long
-      (λ d l. is-word 64 (λ i. some (min moves 128) (λ w. moveBy rows d w (i / 8) (i % 8))) (getD on d 0)
-      (λ i. at d i l ∙ ap (λ n. ltb i 64 && some n (λ w. moveBy rows d w (i / 8) (i % 8))) e))
+      is-gathered 16 (λ d. matrix (λ q x. some (min moves 128) (λ w. moveBy M d w q x))) on long
+      (λ d l. is-word 64 (λ i. some (min moves 128) (λ w. moveBy M d w (i / 8) (i % 8))) (getD on d 0)
+      (λ i. at d i l ∙ ap (λ n. ltb i 64 && some n (λ w. moveBy M d w (i / 8) (i % 8))) e))
 
-  pub events-at : (moves d i : ℕ) → d < 16 → bit (getD (eventSteps rows moves) d 0) i ≡ ltb i 64 && some (min moves 128) (λ w. moveBy rows d w (i / 8) (i % 8))
+  pub events-at : (moves d i : ℕ) → d < 16 → bit (getD (eventSteps M moves) d 0) i ≡ ltb i 64 && some (min moves 128) (λ w. moveBy M d w (i / 8) (i % 8))
   unfolding eventSteps
   events-at moves d i l =
-      ap (λ n. bit n i) (gathered-at 16 (λ d. matrix (λ q x. some (min moves 128) (λ w. moveBy rows d w q x))) d l)
-      ∙ word-bits 64 (λ i. some (min moves 128) (λ w. moveBy rows d w (i / 8) (i % 8))) i
+      ap (λ n. bit n i) (gathered-at 16 (λ d. matrix (λ q x. some (min moves 128) (λ w. moveBy M d w q x))) d l)
+      ∙ word-bits 64 (λ i. some (min moves 128) (λ w. moveBy M d w (i / 8) (i % 8))) i

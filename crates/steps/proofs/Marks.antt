@@ -1,5 +1,5 @@
 -- The events that a symbol shows, marked in two words, and their matrices, joined mark by mark. Assumes nothing.
-use mathlib.Core.Bool.{Bool, true, false, cond, _&&_, _||_}
+use mathlib.Core.Bool.{Bool, true, false, cond, _&&_, _||_, and-true}
 use mathlib.Core.List.{List}
 use mathlib.Core.Logic.{_⊎_, inl, inr}
 use mathlib.Core.Path.{_≡_, refl, sym, ap, ap₂, _∙_, subst, subst⁻¹}
@@ -9,39 +9,102 @@ use native.Mathlib.Nat.{mul-div-cancel, zero-add}
 use native.Mathlib.Numerals.{add-one}
 use native.Mathlib.Omega.{arith}
 use lib.Bits.{bitAnd, bitOr}
-use lib.Dec.{T, eqb, lit<, eqb→eq, eqb-refl}
+use lib.Dec.{T, eqb, ltb, lit<, eqb→eq, eqb-refl}
 use lib.ListN.{getD}
-use borrow.Author.Tests.{ne-eqb}
+use borrow.Author.Tests.{eq-eqb, ne-eqb, lt-ltb, le-ltb}
 use Rattle.product.proofs.Lists.{and-left, and-right, both, or-left, or-right, or-cases, same-truth}
-use Rattle.bits.specs.Bit.{bit}
+use Rattle.bits.specs.Bit.{bit, word}
 use Rattle.bits.specs.Matrix.{some}
-use Rattle.bits.proofs.Bit.{bit-or, bit-zero}
-use Rattle.bits.proofs.Set.{bit-pow, one-shifted}
+use Rattle.bits.proofs.Bit.{bit-and, bit-or, bit-zero, bit-shl, bit-shl-below, bit-past}
+use Rattle.bits.proofs.Set.{bit-pow}
 use Rattle.bits.proofs.Lowest.{lowest}
 use Rattle.bits.proofs.Some.{some-of, of-some, some-lowest, some-none}
 use Rattle.model.specs.Model.{showsAt}
+use Rattle.lent.specs.Lending.{isTrue}
 use Rattle.steps.specs.Events.{marks, marked}
+use Rattle.steps.proofs.Words.{same-bits, word-bits}
 use Rattle.steps.proofs.Events.{or-false}
 use Rattle.steps.proofs.Built.{Joined}
 
--- one mark, as the code makes it
-pub is-mark : (k : ℕ) {b : Bool} → k < 8 → b ≡ true → (1 * 2 ^ (k * 8)) % 2 ^ 64 ≡ cond b (2 ^ (k * 8)) 0
-is-mark k l e = rw e (one-shifted 64 (k * 8) (omega arith))
+and-off : (a : Bool) → a && false ≡ false
+and-off true = refl
+and-off false = refl
 
-pub no-mark : (k : ℕ) {b : Bool} → b ≡ false → 0 ≡ cond b (2 ^ (k * 8)) 0
-no-mark k e = rw e
+-- of a byte that is placed in a word the lowest bit is its mark
+abbrev lows : ℕ
+lows = 72340172838076673
 
+lows-bits : (i : ℕ) → bit lows i ≡ ltb i 64 && eqb (i % 8) 0
+unfolding word
+lows-bits i = word-bits 64 (λ i. eqb (i % 8) 0) i
+
+module _ (b k : ℕ) (small : b < 256) (in-word : k < 8) where
+  abbrev byte : ℕ
+  byte = (b * 2 ^ (k * 8)) % 2 ^ 64
+
+  lowest-bit : bit byte (k * 8) ≡ isTrue b
+  unfolding bit
+  lowest-bit = ap (bit byte) (sym (zero-add (k * 8))) ∙ bit-shl b 64 (k * 8) 0 (omega arith)
+
+  marked-bit : (i : ℕ) → Dec (i ≡ k * 8) → bit byte i && bit lows i ≡ bit (cond (isTrue b) (2 ^ (k * 8)) 0) i
+  marked-bit i (yes e) =
+      ap₂ _&&_ (ap (bit byte) e ∙ lowest-bit) (lows-bits i ∙ here) ∙ and-true (isTrue b) ∙ sym (ap (bit (cond (isTrue b) (2 ^ (k * 8)) 0)) e ∙ one (isTrue b))
+    where
+      here : ltb i 64 && eqb (i % 8) 0 ≡ true
+      here = rw (lt-ltb i 64 (omega arith), eq-eqb (i % 8) 0 (omega arith))
+
+      one : (t : Bool) → bit (cond t (2 ^ (k * 8)) 0) (k * 8) ≡ t
+      one true = bit-pow (k * 8) (k * 8) ∙ eq-eqb (k * 8) (k * 8) refl
+      one false = bit-zero (k * 8)
+  marked-bit i (no n) = none (decLt i (k * 8)) ∙ sym (off (isTrue b))
+    where
+      off : (t : Bool) → bit (cond t (2 ^ (k * 8)) 0) i ≡ false
+      off true = bit-pow (k * 8) i ∙ ne-eqb (k * 8) i (λ e. n (sym e))
+      off false = bit-zero i
+
+      past : ltb i 64 && eqb (i % 8) 0 ≡ false → bit byte i && bit lows i ≡ false
+      past f = ap (λ c. bit byte i && c) (lows-bits i ∙ f) ∙ and-off (bit byte i)
+
+      above : (d : ℕ) → i ≡ d + k * 8 → Dec (i < 64) → Dec (d < 8) → bit byte i && bit lows i ≡ false
+      above d e (no l) y = past (rw (le-ltb i 64 (omega arith)))
+      above d e (yes l) (no y) =
+          ap (λ c. c && bit lows i) (ap (bit byte) e ∙ bit-shl b 64 (k * 8) d (omega arith) ∙ bit-past b 8 d small (omega arith))
+      above d e (yes l) (yes y) = past (rw (lt-ltb i 64 l, ne-eqb (i % 8) 0 (omega arith)))
+
+      none : Dec (i < k * 8) → bit byte i && bit lows i ≡ false
+      none (yes l) = ap (λ c. c && bit lows i) (bit-shl-below b 64 (k * 8) i (omega arith) l)
+      none (no l) = above (i - k * 8) (omega arith) (decLt i 64) (decLt (i - k * 8) 8)
+
+  byte-mark : bitAnd byte lows ≡ cond (isTrue b) (2 ^ (k * 8)) 0
+  byte-mark = same-bits (bitAnd byte lows) (cond (isTrue b) (2 ^ (k * 8)) 0) (λ i. bit-and byte lows i ∙ marked-bit i (ℕ-discrete i (k * 8)))
+
+and-either : (a b c : Bool) → (a || b) && c ≡ (a && c) || (b && c)
+and-either true true true = refl
+and-either true true false = refl
+and-either true false true = refl
+and-either true false false = refl
+and-either false b c = refl
+
+mark-or : (x y : ℕ) → bitAnd (bitOr x y) lows ≡ bitOr (bitAnd x lows) (bitAnd y lows)
+mark-or x y = same-bits (bitAnd (bitOr x y) lows) (bitOr (bitAnd x lows) (bitAnd y lows)) λ i.
+    bit-and (bitOr x y) lows i ∙ ap (λ c. c && bit lows i) (bit-or x y i) ∙ and-either (bit x i) (bit y i) (bit lows i)
+    ∙ sym (bit-or (bitAnd x lows) (bitAnd y lows) i ∙ ap₂ _||_ (bit-and x lows i) (bit-and y lows i))
+
+-- the truths before k are marked in the lowest bits of the bytes
 module _ (shows : List Bool) (at : ℕ) where
-  pub marks-none : 0 ≡ marks shows at 0
+  pub marks-none : bitAnd 0 lows ≡ marks shows at 0
   unfolding marks
   marks-none = refl
 
-  pub marks-more : (k : ℕ) {w x : ℕ} → w ≡ marks shows at k → x ≡ cond (getD shows (at + k) false) (2 ^ (k * 8)) 0 → bitOr w x ≡ marks shows at (k + 1)
+  pub marks-more : (k b w x : ℕ) → k < 8 → b < 256 → bitAnd w lows ≡ marks shows at k → x ≡ (b * 2 ^ (k * 8)) % 2 ^ 64 → isTrue b ≡ getD shows (at + k) false
+      → bitAnd (bitOr w x) lows ≡ marks shows at (k + 1)
   unfolding marks
-  marks-more k a b = rw add-one (ap₂ bitOr a b)
+  marks-more k b w x l small a e t =
+      rw add-one
+      (mark-or w x ∙ ap₂ bitOr a (ap (λ x. bitAnd x lows) e ∙ byte-mark b k small l ∙ ap (λ c. cond c (2 ^ (k * 8)) 0) t))
 
-  pub marks-all : (k : ℕ) {w : ℕ} → k ≡ 8 → w ≡ marks shows at k → w ≡ marks shows at 8
-  marks-all k e h = h ∙ ap (marks shows at) e
+  pub marks-all : (k w : ℕ) → k ≡ 8 → bitAnd w lows ≡ marks shows at k → bitAnd w lows ≡ marks shows at 8
+  marks-all k w e h = h ∙ ap (marks shows at) e
 
   marks-bit : (n j : ℕ) → bit (marks shows at n) j ≡ some n (λ k. getD shows (at + k) false && eqb (k * 8) j)
   unfolding marks

@@ -8,15 +8,16 @@ use lib.ListN.{getD, set}
 use Rattle.product.specs.Lists.{upTo, each}
 use Rattle.bits.specs.Bit.{bit}
 use Rattle.bits.specs.Matrix.{some}
-use Rattle.model.specs.Model.{moveAt}
+use Rattle.model.specs.declared.Model.{Model}
+use Rattle.model.specs.Model.{move}
 use Rattle.steps.specs.Steps.{matrix}
 
 -- the move v leads by e from q to q′
-abbrev pub moveBy : (moverows : List ℕ) → (e v q q′ : ℕ) → Bool
-moveBy moverows e v q q′ = eqb (moveAt moverows v .event) e && (eqb (moveAt moverows v .source) q && eqb (moveAt moverows v .target) q′)
+abbrev pub moveBy : Model → (e v q q′ : ℕ) → Bool
+moveBy m e v q q′ = eqb (move m v .event) e && (eqb (move m v .source) q && eqb (move m v .target) q′)
 
-unfoldable pub eventSteps : (moverows : List ℕ) → (moves : ℕ) → List ℕ
-eventSteps moverows moves = each (upTo 16) (λ e. matrix (λ q q′. some (min moves 128) (λ v. moveBy moverows e v q q′)))
+unfoldable pub eventSteps : Model → (moves : ℕ) → List ℕ
+eventSteps m moves = each (upTo 16) (λ e. matrix (λ q q′. some (min moves 128) (λ v. moveBy m e v q q′)))
 
 -- with one move more, where its numbers have a place
 unfoldable pub withMove : List ℕ → (q e x : ℕ) → List ℕ

@@ -6,34 +6,39 @@ use Prim.Native.Nat.{ℕ, _/_, _%_, min}
 use lib.Dec.{eqb, ltb}
 use lib.ListN.{getD}
 use Rattle.product.specs.Lists.{upTo, each}
-use Rattle.product.specs.Product.{exit}
+use Rattle.product.specs.Product.{exit, symbol}
 use Rattle.bits.specs.Bit.{word}
 use Rattle.bits.specs.Matrix.{some, image}
-use Rattle.model.specs.Model.{inRow, moveAt, fitsAt}
+use Rattle.model.specs.declared.Model.{Model}
+use Rattle.model.specs.Model.{rule, move, fitsAt}
 
 -- the number of a rule's class, for the first 256 rules; 0 for any other number, which no valid model has as a rule
-unfoldable pub classOf : (rulerows : List ℕ) → (r : ℕ) → ℕ
-classOf rulerows r = cond (ltb r 256) (inRow 4 rulerows r 1) 0
+unfoldable pub classOf : Model → (r : ℕ) → ℕ
+classOf m r = cond (ltb r 256) (symbol (rule m r)) 0
+
+-- the symbol of class c, below 32: with one location a class is its symbol
+unfoldable pub symbolOf : ℕ → ℕ
+symbolOf c = c % 32
 
 -- a matrix by its entries
 abbrev pub matrix : (ℕ → ℕ → Bool) → ℕ
 matrix a = word 64 (λ i. a (i / 8) (i % 8))
 
 -- the move v, of an event below 16, makes a step from q to q′ by the rules of symbol g: which of them makes no difference
-abbrev pub stepBy : (moverows : List ℕ) → (shows : List Bool) → (g v q q′ : ℕ) → Bool
-stepBy moverows shows g v q q′ = ltb (moveAt moverows v .event) 16 && fitsAt (exit g) (moveAt moverows v) shows q && eqb (moveAt moverows v .target) q′
+abbrev pub stepBy : Model → (g v q q′ : ℕ) → Bool
+stepBy m g v q q′ = ltb (move m v .event) 16 && fitsAt (exit g) (move m v) (m .shows) q && eqb (move m v .target) q′
 
 -- some move does, of the first 128
-unfoldable pub stepsBy : (moverows : List ℕ) → (shows : List Bool) → (moves g q q′ : ℕ) → Bool
-stepsBy moverows shows moves g q q′ = some (min moves 128) (λ v. stepBy moverows shows g v q q′)
+unfoldable pub stepsBy : Model → (g q q′ : ℕ) → Bool
+stepsBy m g q q′ = some (min (m .moves) 128) (λ v. stepBy m g v q q′)
 
 -- the matrix of class c, of the first 32 symbols
-unfoldable pub stepsOf : (moverows : List ℕ) → (shows : List Bool) → (moves symbols c : ℕ) → ℕ
-stepsOf moverows shows moves symbols c = cond (ltb c (min symbols 32)) (matrix (stepsBy moverows shows moves c)) 0
+unfoldable pub stepsOf : Model → (c : ℕ) → ℕ
+stepsOf m c = cond (ltb c (min (m .symbols) 32)) (matrix (stepsBy m c)) 0
 
-unfoldable pub classSteps : (moverows : List ℕ) → (shows : List Bool) → (moves symbols : ℕ) → List ℕ
-classSteps moverows shows moves symbols = each (upTo 256) (stepsOf moverows shows moves symbols)
+unfoldable pub classSteps : Model → List ℕ
+classSteps m = each (upTo 256) (stepsOf m)
 
 -- where the steps of rule r lead from the set of states, by the matrices tg of the classes
-unfoldable pub statesAfter : (rulerows tg : List ℕ) → (r from : ℕ) → ℕ
-statesAfter rulerows tg r from = image from (getD tg (classOf rulerows r) 0)
+unfoldable pub statesAfter : Model → (tg : List ℕ) → (r from : ℕ) → ℕ
+statesAfter m tg r from = image from (getD tg (classOf m r) 0)

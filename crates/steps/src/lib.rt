@@ -1,20 +1,16 @@
 // The steps of each class of rules, as matrices: from which state to which. A rule's class is what its steps do to the property state; with
 // one location that is its symbol.
-ghost use mathlib.Core.Bool.{cond, _&&_, _||_};
+ghost use mathlib.Core.Bool.{_&&_, _||_};
 ghost use mathlib.Core.Path.{_≡_};
-ghost use Prim.Native.Nat.{ℕ, _+_, _*_, _^_, _<_, _≤_, min};
+ghost use Prim.Native.Nat.{ℕ, _+_, _*_, _%_, _^_, _<_, _≤_, min};
 ghost use lib.ListN.{getD};
 ghost use Rattle.bits.specs.Bit.{bit};
 ghost use Rattle.bits.specs.Matrix.{some};
-ghost use Rattle.model.specs.Model.{showsAt};
+ghost use Rattle.lent.specs.Lending.{modelIn};
+ghost use Rattle.model.specs.Model.{shown};
 ghost use Rattle.steps.specs.Events.{eventSteps, withMove, marks, marked};
-ghost use Rattle.steps.specs.Steps.{classOf, classSteps, statesAfter};
-
-fn wide(x: u8) -> u64
-    ensures { λ r. ⌜ r ≡ x ⌝ }
-{
-    x as u64
-}
+ghost use Rattle.steps.specs.Steps.{classOf, symbolOf, classSteps, statesAfter};
+use lent::Lent;
 
 fn index(x: u8) -> usize
     ensures { λ r. ⌜ r ≡ x ⌝ }
@@ -49,47 +45,41 @@ fn put_move(on: &mut [u64; 16], q: u64, e: usize, x: u64)
 }
 
 // For each event the matrix of its moves.
-fn by_event(moverows: &[u8; 384], moves: usize) -> [u64; 16]
-    ensures { λ r. ⌜ r ≡ eventSteps (now (moverows .entry)) moves ⌝ }
+fn by_event(m: &Lent, moves: usize) -> [u64; 16]
+    ensures { λ r. ⌜ r ≡ eventSteps (modelIn (now (m .entry))) moves ⌝ }
 {
     let mut on = [0u64; 16];
     let n = at_most(moves, 128);
     let mut v: usize = 0;
     while v < n {
-        put_move(
-            &mut on,
-            wide(moverows[v * 3 + 0]),
-            index(moverows[v * 3 + 1]),
-            wide(moverows[v * 3 + 2]),
-        );
+        let by = lent::move_at(m, v);
+        put_move(&mut on, by.source as u64, by.event, by.target as u64);
         v += 1;
     }
     on
 }
 
-// Bit 8 k, if the truth is so: its mark in byte k of a word.
-fn mark(truth: bool, k: usize) -> u64
+// Byte k of a word, the others 0.
+fn placed(b: u8, k: usize) -> u64
     requires { ⌜ k < 8 ⌝ }
-    ensures { λ r. ⌜ r ≡ cond truth (2 ^ (k * 8)) 0 ⌝ }
+    ensures { λ r. ⌜ r ≡ (b * 2 ^ (k * 8)) % 2 ^ 64 ⌝ }
+    ensures { λ r. ⌜ b < 256 ⌝ }
 {
-    if truth {
-        return 1u64 << ((k * 8) as u64);
-    }
-    0
+    (b as u64) << ((k * 8) as u64)
 }
 
 // The eight truths from number `at` on, a byte each: as they lie in memory, so that the compiler reads them at once.
-fn eight(shows: &[bool; 512], at: usize) -> u64
+fn eight(m: &Lent, at: usize) -> u64
     requires { ⌜ at + 8 ≤ 512 ⌝ }
-    ensures { λ w. ⌜ w ≡ marks (now (shows .entry)) at 8 ⌝ }
+    ensures { λ w. ⌜ w ≡ marks (modelIn (now (m .entry)) .shows) at 8 ⌝ }
 {
     let mut w: u64 = 0;
     let mut k: usize = 0;
     while k < 8 {
-        w = w | mark(shows[at + k], k);
+        w = w | placed(m[1408 + at + k], k);
         k += 1;
     }
-    w
+    w & 0x0101010101010101
 }
 
 // m with the matrices of the events that are marked in w, whose first byte is that of event `from`.
@@ -108,50 +98,54 @@ fn join(on: &[u64; 16], from: usize, w: u64, m: u64) -> u64
 }
 
 // The matrix of symbol g: those of the events that it shows, joined; every symbol shows event 0.
-fn symbol_steps<'a>(on: &'a [u64; 16], shows: &'a [bool; 512], g: usize) -> u64
+fn symbol_steps<'a>(on: &'a [u64; 16], m: &'a Lent, g: usize) -> u64
     requires { ⌜ g < 32 ⌝ }
-    ensures { λ r. ⌜ ((i : ℕ) → bit r i ≡ some 16 (λ e. showsAt (now (shows .entry)) g e && bit (getD (now (on .entry)) e 0) i)) ⌝ }
+    ensures { λ r. ⌜ ((i : ℕ) → bit r i ≡ some 16 (λ e. shown (modelIn (now (m .entry))) g e && bit (getD (now (on .entry)) e 0) i)) ⌝ }
 {
     let at = g * 16;
-    let m = join(on, 0, eight(shows, at), on[0]);
-    join(on, 8, eight(shows, at + 8), m)
+    let half = join(on, 0, eight(m, at), on[0]);
+    join(on, 8, eight(m, at + 8), half)
 }
 
 // For each class of rules the matrix of its steps.
-pub fn class_steps<'a>(
-    moverows: &'a [u8; 384],
-    shows: &'a [bool; 512],
-    moves: usize,
-    symbols: usize,
-) -> [u64; 256]
-    ensures { λ r. ⌜ r ≡ classSteps (now (moverows .entry)) (now (shows .entry)) moves symbols ⌝ }
+pub fn class_steps(m: &Lent) -> [u64; 256]
+    ensures { λ r. ⌜ r ≡ classSteps (modelIn (now (m .entry))) ⌝ }
 {
-    let on = by_event(moverows, moves);
+    let shape = lent::shape(m);
+    let on = by_event(m, shape.moves);
     let mut tg = [0u64; 256];
-    let n = at_most(symbols, 32);
+    let n = at_most(shape.symbols as usize, 32);
     let mut g: usize = 0;
     while g < n {
-        tg[g] = symbol_steps(&on, shows, g);
+        tg[g] = symbol_steps(&on, m, g);
         g += 1;
     }
     tg
 }
 
 // The class of rule r; 0 for a number from 256 on, which is no rule.
-pub fn class_of(rulerows: &[u8; 1024], r: usize) -> usize
-    ensures { λ c. ⌜ c ≡ classOf (now (rulerows .entry)) r ⌝ }
+pub fn class_of(m: &Lent, r: usize) -> usize
+    ensures { λ c. ⌜ c ≡ classOf (modelIn (now (m .entry))) r ⌝ }
     ensures { λ c. ⌜ c < 256 ⌝ }
 {
     if 256 <= r {
         return 0;
     }
-    index(rulerows[r * 4 + 1])
+    index(m[r * 4 + 1])
+}
+
+// The symbol of a class, whatever the number.
+pub fn symbol_of(class: usize) -> usize
+    ensures { λ g. ⌜ g ≡ symbolOf class ⌝ }
+    ensures { λ g. ⌜ g < 32 ⌝ }
+{
+    class % 32
 }
 
 // The states to which rule r can step from those in `from`.
-pub fn states_after(rulerows: &[u8; 1024], tg: &[u64; 256], r: usize, from: u64) -> u64
-    ensures { λ x. ⌜ x ≡ statesAfter (now (rulerows .entry)) (now (tg .entry)) r from ⌝ }
+pub fn states_after(m: &Lent, tg: &[u64; 256], r: usize, from: u64) -> u64
+    ensures { λ x. ⌜ x ≡ statesAfter (modelIn (now (m .entry))) (now (tg .entry)) r from ⌝ }
 {
-    let c = class_of(rulerows, r);
+    let c = class_of(m, r);
     bits::through(from, tg[c])
 }

@@ -84,7 +84,7 @@ first-drop c (x ∷ s) (suc i) h = go (first-drop c s i) (eqb x c) h
 
 -- the line up to the first b, by the place e of the first a or b; past the end there stands a b
 module _ (a b : ℕ) (s : List ℕ) {e : ℕ} (f : e ≡ length (first a (first b s))) where
-  at-a : e < length (first b s) → getD s e 0 ≡ a
+  pub at-a : e < length (first b s) → getD s e 0 ≡ a
   at-a h =
       sym (getD-take (length (first b s)) s e 0 h)
       ∙ ap (λ l. getD l e 0) (first-take b s)

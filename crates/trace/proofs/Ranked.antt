@@ -40,7 +40,7 @@ module _ (m : Model) (t : T (valid m)) (n : ℕ) (small : n < absent) (hs ts : L
       let (i, _, j) = held-within (productOf m) (product-in m t) n (triple q g e) h in
       (upTo-lt (m .states) q i, upTo-lt (m .states) e j)
 
-  pub explains-ranked : Explains (productOf m) n (view (m .symbols) (m .states) hs ts) (whyIn (m .rulerows) (m .moverows) (m .shows) (m .symbols) (m .states) hs ts (m .rules) (m .moves))
+  pub explains-ranked : Explains (productOf m) n (view (m .symbols) (m .states) hs ts) (whyIn (productOf m) (m .symbols) (m .states) hs ts (m .rules) (m .moves))
   explains-ranked = record {
     rank = λ f _. ap (λ u. u f) is;
     way = λ k f l h.

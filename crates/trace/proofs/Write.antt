@@ -13,14 +13,18 @@ use Rattle.product.specs.Product.{Product, Step, stored}
 use Rattle.product.specs.Facts.{Fact, head, triple, cells}
 use Rattle.product.specs.Rounds.{held}
 use Rattle.product.specs.Verdict.{violating}
+use Rattle.product.specs.Table.{Table}
 use Rattle.product.specs.Trace.{culprit, trace, traceTo}
 use Rattle.product.proofs.Lists.{and-right, length-each}
 use Rattle.model.specs.declared.Model.{Model}
+use Rattle.model.specs.declared.Shape.{Shape}
+use Rattle.lent.specs.Lending.{shapeIn, ofLent, modelIn, productIn}
 use Rattle.model.specs.Model.{productOf}
 use Rattle.model.proofs.Bounds.{start-state-in, start-symbol-in}
 use Rattle.text.specs.Put.{Put}
 use Rattle.table.specs.Cells.{view}
 use Rattle.culprit.specs.declared.Goal.{Goal}
+use Rattle.trace.specs.declared.Traced.{Traced}
 use Rattle.trace.specs.declared.Traced.the-variants.{Found, Cut}
 use Rattle.culprit.specs.Culprit.{goalOf, goalAs, culpritIn}
 use Rattle.explain.specs.Search.{whyIn}
@@ -45,10 +49,10 @@ module _ (p : Product) (n : ℕ) where
   goal-trace (some (triple q g e)) = refl
 
 module _ (m : Model) (n : ℕ) (hs ts : List ℕ) (R : Ranked m n hs ts) {f : Goal}
-    (taken : f ≡ goalAs (culpritIn (m .finals) (m .symbols) (m .states) hs ts (m .startstate) (m .startsymbol))) {room room′ : List ℕ} {at : ℕ}
-    (u : Unfolded (view (m .symbols) (m .states) hs ts) (whyIn (m .rulerows) (m .moverows) (m .shows) (m .symbols) (m .states) hs ts (m .rules) (m .moves)) f room 0 at room′) where
+    (taken : f ≡ goalAs (culpritIn (productOf m .final) (m .symbols) (m .states) hs ts (m .startstate) (m .startsymbol))) {room room′ : List ℕ} {at : ℕ}
+    (u : Unfolded (view (m .symbols) (m .states) hs ts) (whyIn (productOf m) (m .symbols) (m .states) hs ts (m .rules) (m .moves)) f room 0 at room′) where
   is-culprit : f ≡ goalAs (culprit (productOf m) n)
-  is-culprit = taken ∙ ap goalAs (culprit-held (productOf m) (m .finals) (m .states) refl (λ _. refl) hs ts (start-state-in m (R .valid-model)) (start-symbol-in m (R .valid-model)) n (R .small) (R .table))
+  is-culprit = taken ∙ ap goalAs (culprit-held (productOf m) (productOf m .final) (m .states) refl (λ _. refl) hs ts (start-state-in m (R .valid-model)) (start-symbol-in m (R .valid-model)) n (R .small) (R .table))
 
   wrote : Put room room′ 0 at (each (violationSteps m n) stored)
   wrote =
@@ -71,3 +75,19 @@ module _ (m : Model) (n : ℕ) (hs ts : List ℕ) (R : Ranked m n hs ts) {f : Go
         rw (le-leb (length (violationSteps m n)) (length room) i) (ap (Found n) e);
     cells = wrote .cells;
   }
+
+-- what was unfolded by the lent model, of the shape that was read; and the whole by that shape
+module _ (cells : List ℕ) {s : Shape} (read : s ≡ shapeIn cells) where
+  pub by-shape : (t : Table) (G Q : ℕ) (hs ts : List ℕ) (n k : ℕ) {f : Goal} {room room′ : List ℕ} {at at′ : ℕ}
+      → Unfolded t (whyIn (productIn cells) G Q hs ts n k) f room at at′ room′ → Unfolded t (whyIn (productOf (ofLent s cells)) G Q hs ts n k) f room at at′ room′
+  unfolding modelIn
+  by-shape t G Q hs ts n k {f} {room} {room′} {at} {at′} =
+      subst⁻¹ (λ (s : Shape). Unfolded t (whyIn (productOf (ofLent s cells)) G Q hs ts n k) f room at at′ room′) read
+
+  pub ranked-by : {n : ℕ} {hs ts : List ℕ} → Ranked (modelIn cells) n hs ts → Ranked (ofLent s cells) n hs ts
+  unfolding modelIn
+  ranked-by {n} {hs} {ts} = subst⁻¹ (λ (s : Shape). Ranked (ofLent s cells) n hs ts) read
+
+  pub written-by : {n : ℕ} {room room′ : List ℕ} {r : Traced} → Written (ofLent s cells) n room r room′ → Written (modelIn cells) n room r room′
+  unfolding modelIn
+  written-by {n} {room} {room′} {r} = subst (λ (s : Shape). Written (ofLent s cells) n room r room′) read

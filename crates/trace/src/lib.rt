@@ -1,7 +1,9 @@
 // The trace: the explanation of a fact, found in the two arrays of ranks, and unfolded to the steps of a run.
+ghost use mathlib.Core.Path.{_≡_};
 ghost use mathlib.Core.List.{[], _∷_};
 ghost use Prim.Native.Nat.{_+_, _*_, _<_};
 ghost use lib.ListN.{length};
+ghost use Rattle.lent.specs.Lending.{shapeIn, ofLent, modelIn, productIn};
 ghost use Rattle.text.specs.Put.{Put};
 ghost use Rattle.table.specs.Cells.{view};
 ghost use Rattle.explain.specs.Search.{whyIn};
@@ -12,7 +14,8 @@ use culprit::Goal;
 use decide::Decision;
 use explain::Counts;
 use explain::Found;
-use model::Model;
+use lent::Lent;
+use model::Shape;
 use table::Size;
 
 // The answer of the call: the trace was found, with its rounds and steps; or a refusal, whose number specs/Outcome.antt says.
@@ -41,9 +44,7 @@ fn put(room: &mut [u16], at: usize, rule: usize, by: usize) -> usize
 // exponential in the rank.
 fn unfold_fact<'a>(
     room: &mut [u16],
-    rules: &'a [u8; 1024],
-    moves: &'a [u8; 384],
-    shows: &'a [bool; 512],
+    m: &'a Lent,
     heads: &'a [u16],
     triples: &'a [u16],
     n: Counts,
@@ -51,60 +52,52 @@ fn unfold_fact<'a>(
     at: usize,
 ) -> usize
     requires { ⌜ Storable (n .rules) (n .moves) at (length (now room)) ⌝ }
-    ensures { λ r. ⌜ Unfolded (view (n .size .symbols) (n .size .states) (now (heads .entry)) (now (triples .entry))) (whyIn (now (rules .entry)) (now (moves .entry)) (now (shows .entry)) (n .size .symbols) (n .size .states) (now (heads .entry)) (now (triples .entry)) (n .rules) (n .moves)) f (now (room .entry)) at r (now (room .exit)) ⌝ }
+    ensures { λ r. ⌜ Unfolded (view (n .size .symbols) (n .size .states) (now (heads .entry)) (now (triples .entry))) (whyIn (productIn (now (m .entry))) (n .size .symbols) (n .size .states) (now (heads .entry)) (now (triples .entry)) (n .rules) (n .moves)) f (now (room .entry)) at r (now (room .exit)) ⌝ }
 {
     if room.len() < at {
         return at;
     }
-    let w = explain::explain(rules, moves, shows, heads, triples, n, f);
+    let w = explain::explain(m, heads, triples, n, f);
     match w {
         Found::Nowhere => at,
         Found::By(c) => {
             let before = c.before;
             let first = c.first;
             let second = c.second;
-            let here = unfold_fact(room, rules, moves, shows, heads, triples, n, before, at);
+            let here = unfold_fact(room, m, heads, triples, n, before, at);
             let next = put(room, here, c.rule, c.by);
-            let then = unfold_fact(room, rules, moves, shows, heads, triples, n, first, next);
-            unfold_fact(room, rules, moves, shows, heads, triples, n, second, then)
+            let then = unfold_fact(room, m, heads, triples, n, first, next);
+            unfold_fact(room, m, heads, triples, n, second, then)
         }
     }
 }
 
-// The trace of a violation after n rounds, into the room.
+// The trace of a violation after n rounds, into the room, of a model whose shape was asked for.
 fn write_trace<'a>(
     room: &mut [u16],
+    shape: Shape,
+    m: &'a Lent,
     heads: &'a [u16],
     triples: &'a [u16],
-    m: Model,
     n: u16,
 ) -> Traced
-    requires { ⌜ Ranked m n (now heads) (now triples) ⌝ }
-    ensures { λ r. ⌜ Written m n (now (room .entry)) r (now (room .exit)) ⌝ }
+    requires { ⌜ shape ≡ shapeIn (now m) ⌝ }
+    requires { ⌜ Ranked (ofLent shape (now m)) n (now heads) (now triples) ⌝ }
+    ensures { λ r. ⌜ Written (ofLent shape (now (m .entry))) n (now (room .entry)) r (now (room .exit)) ⌝ }
 {
     let size = Size {
-        symbols: m.symbols,
-        states: m.states,
+        symbols: shape.symbols,
+        states: shape.states,
     };
-    let q = m.startstate as usize;
-    let g = m.startsymbol as usize;
-    let f = culprit::culprit(&m.finals, heads, triples, size, q, g);
+    let q = shape.startstate as usize;
+    let g = shape.startsymbol as usize;
+    let f = culprit::culprit(m, heads, triples, size, q, g);
     let counts = Counts {
         size,
-        rules: m.rules,
-        moves: m.moves,
+        rules: shape.rules,
+        moves: shape.moves,
     };
-    let at = unfold_fact(
-        room,
-        &m.rulerows,
-        &m.moverows,
-        &m.shows,
-        heads,
-        triples,
-        counts,
-        f,
-        0,
-    );
+    let at = unfold_fact(room, m, heads, triples, counts, f, 0);
     if room.len() < at {
         return Traced::Cut(n, room.len());
     }
@@ -113,17 +106,20 @@ fn write_trace<'a>(
 
 // Decides a model within a budget of rounds, and then writes the trace of a violation into the room, as far as it fits. A room of 0 cells is a room.
 pub fn trace(
-    m: Model,
+    m: &Lent,
     budget: u32,
     heads: &mut [u16],
     triples: &mut [u16],
     room: &mut [u16],
 ) -> Traced
-    ensures { λ r. ⌜ Outcome m budget (now (heads .entry)) (now (triples .entry)) (now (room .entry)) r (now (heads .exit)) (now (triples .exit)) (now (room .exit)) ⌝ }
+    ensures { λ r. ⌜ Outcome (modelIn (now (m .entry))) budget (now (heads .entry)) (now (triples .entry)) (now (room .entry)) r (now (heads .exit)) (now (triples .exit)) (now (room .exit)) ⌝ }
 {
     let d = decide::decide(m, budget, heads, triples);
     match d {
-        Decision::Violation(n) => write_trace(room, heads, triples, m, n),
+        Decision::Violation(n) => {
+            let shape = lent::shape(m);
+            write_trace(room, shape, m, heads, triples, n)
+        }
         Decision::Safe(n) => Traced::Safe(n),
         Decision::Invalid => Traced::Invalid,
         Decision::Short => Traced::Short,

@@ -1,2 +1,3 @@
 -- Laws of the lines of a violation.
 pub mod Lines
+pub mod Runs

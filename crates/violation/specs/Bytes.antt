@@ -1,13 +1,15 @@
 -- What is printed of a violation: its first line, and a line for each step. Assumes nothing.
 use mathlib.Core.Bool.{Bool, cond}
 use mathlib.Core.List.{List, [], _∷_, _++_}
-use Prim.Native.Nat.{ℕ, _+_, _/_, _%_, min}
+use mathlib.Core.Option.{Option, none, some}
+use Prim.Native.Nat.{ℕ, zero, suc, _+_, _/_, _%_, min}
 use lib.ListN.{getD}
 use Rattle.product.specs.Lists.{upTo, over}
 use Rattle.product.specs.Product as product
-use Rattle.line.specs.Line.{exit, direct, call}
+use Rattle.product.specs.Product.{Product, loaded}
+use Rattle.modelline.specs.Line.{exit, direct, call}
 use Rattle.model.specs.declared.Model.{Model}
-use Rattle.model.specs.Model.{ruleAt, moveAt}
+use Rattle.model.specs.Model.{productOf}
 use Rattle.print.specs.Bytes.{lineBytes, namedBytes}
 use Rattle.violation.specs.Words.{violationWord, stepWord, cutWord}
 
@@ -25,15 +27,26 @@ kindOf (product.exit g) = exit
 kindOf (product.direct g g1) = direct
 kindOf (product.call g g1 g2) = call
 
--- The line of a stored step, rule·128 + move: its number, rule, move, state after, kind. The state after is what the move's row says, and the kind what
--- the rule's row says, whatever the number stored.
-abbrev pub stepLine : (rulerows moverows : List ℕ) → (number step : ℕ) → List ℕ
-stepLine rulerows moverows number step =
-    namedBytes stepWord (number ∷ step / 128 ∷ step % 128 ∷ moveAt moverows (step % 128) .target ∷ []) (kindOf (ruleAt rulerows (step / 128)))
+-- the state after a stored step, rule·128 + move, from q; q itself where rule and move make no step
+abbrev pub orStay : ℕ → Option ℕ → ℕ
+orStay q none = q
+orStay q (some q′) = q′
+
+abbrev pub stepped : Product → (step q : ℕ) → ℕ
+stepped p step q = orStay q (p .next (loaded step) q)
+
+-- the state after the first steps, from the start
+abbrev pub stateAfter : Product → (steps : List ℕ) → ℕ → ℕ
+stateAfter p steps zero = p .start-state
+stateAfter p steps (suc i) = stepped p (getD steps i 0) (stateAfter p steps i)
+
+-- the line of a stored step: its number, rule, move, state after, kind
+abbrev pub stepLine : Product → (number step state : ℕ) → List ℕ
+stepLine p number step state = namedBytes stepWord (number ∷ step / 128 ∷ step % 128 ∷ state ∷ []) (kindOf (p .rule (step / 128)))
 
 -- the lines of the first n steps, numbered from 1
-unfoldable pub stepLines : (rulerows moverows : List ℕ) → (steps : List ℕ) → (n : ℕ) → List ℕ
-stepLines rulerows moverows steps n = over (upTo n) (λ i. stepLine rulerows moverows (i + 1) (getD steps i 0))
+unfoldable pub stepLines : Product → (steps : List ℕ) → (n : ℕ) → List ℕ
+stepLines p steps n = over (upTo n) (λ i. stepLine p (i + 1) (getD steps i 0) (stateAfter p steps (suc i)))
 
 -- rounds, and the number of steps, or `cut`
 unfoldable pub firstLine : (whole : Bool) → (rounds n : ℕ) → List ℕ
@@ -41,4 +54,4 @@ firstLine whole rounds n = cond whole (lineBytes violationWord (rounds ∷ n ∷
 
 -- a violation whose trace is whole or cut, with the first n of its steps
 abbrev pub violationBytes : Model → (whole : Bool) → (rounds : ℕ) → (steps : List ℕ) → (n : ℕ) → List ℕ
-violationBytes m whole rounds steps n = firstLine whole rounds n ++ stepLines (m .rulerows) (m .moverows) steps n
+violationBytes m whole rounds steps n = firstLine whole rounds n ++ stepLines (productOf m) steps n

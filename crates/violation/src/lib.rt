@@ -1,23 +1,32 @@
 // Puts a violation: its rounds, and a line for each step of its trace.
 ghost use mathlib.Core.Path.{_≡_};
-ghost use Prim.Native.Nat.{ℕ, min};
+ghost use Prim.Native.Nat.{ℕ, _≤_, min};
 ghost use lib.ListN.{length};
+ghost use Rattle.lent.specs.Lending.{modelIn, productIn};
 ghost use Rattle.model.specs.Answers.{meant};
 ghost use Rattle.print.specs.Bytes.{namedBytes};
 ghost use Rattle.text.specs.Put.{Put};
 ghost use Rattle.violation.specs.Words.{stepWord};
-ghost use Rattle.violation.specs.Bytes.{shown, kindOf, stepLine, stepLines, firstLine, violationBytes};
+ghost use Rattle.violation.specs.Bytes.{shown, kindOf, stepped, stepLine, stepLines, firstLine, violationBytes};
 ghost use Rattle.violation.specs.Steps.{Steps};
-use model::Model;
+use lent::Lent;
+use model::Next;
 use model::Rule;
 
 // The steps of a trace that are printed at most.
 pub const ROOM: usize = 4096;
 
-fn wide(x: u8) -> u16
-    ensures { λ r. ⌜ r ≡ x ⌝ }
+// The state after a stored step from q; q itself where it is no step.
+fn state_after(m: &Lent, step: u16, q: usize) -> usize
+    requires { ⌜ q ≤ 255 ⌝ }
+    ensures { λ r. ⌜ r ≡ stepped (productIn (now (m .entry))) step q ⌝ }
+    ensures { λ r. ⌜ r ≤ 255 ⌝ }
 {
-    x as u16
+    let next = lent::next_state(m, (step / 128) as usize, (step % 128) as usize, q);
+    match next {
+        Next::Stuck => q,
+        Next::To(to) => to,
+    }
 }
 
 // Puts the line of a step with these numbers, by this rule.
@@ -32,41 +41,28 @@ fn put_by(out: &mut [u8], at: usize, row: &[u16], rule: Rule) -> usize
 }
 
 // Puts the line of a stored step: its number, rule, move, the state after it, and its kind.
-fn put_step<'a>(
-    out: &mut [u8],
-    at: usize,
-    rulerows: &'a [u8; 1024],
-    moverows: &'a [u8; 384],
-    number: u16,
-    step: u16,
-) -> usize
-    ensures { λ r. ⌜ Put (now (out .entry)) (now (out .exit)) at r (stepLine (now (rulerows .entry)) (now (moverows .entry)) number step) ⌝ }
+fn put_step(out: &mut [u8], at: usize, m: &Lent, number: u16, step: u16, state: u16) -> usize
+    ensures { λ r. ⌜ Put (now (out .entry)) (now (out .exit)) at r (stepLine (productIn (now (m .entry))) number step state) ⌝ }
 {
     let r = step / 128;
     let v = step % 128;
-    let target = (v as usize) * 3 + 2;
-    let state = wide(moverows[target]);
     let row = [number, r, v, state];
-    let rule = model::rule_at(rulerows, r as usize);
+    let rule = lent::rule_at(m, r as usize);
     put_by(out, at, &row, rule)
 }
 
-// Puts the lines of the first `count` steps, numbered from 1.
-fn put_steps<'a>(
-    out: &mut [u8],
-    at: usize,
-    rulerows: &'a [u8; 1024],
-    moverows: &'a [u8; 384],
-    steps: &'a [u16],
-    count: usize,
-) -> usize
+// Puts the lines of the first `count` steps, numbered from 1, with the states of their run.
+fn put_steps(out: &mut [u8], at: usize, m: &Lent, steps: &[u16], count: usize) -> usize
     requires { ⌜ Steps (length (now steps)) count ⌝ }
-    ensures { λ r. ⌜ Put (now (out .entry)) (now (out .exit)) at r (stepLines (now (rulerows .entry)) (now (moverows .entry)) (now (steps .entry)) count) ⌝ }
+    ensures { λ r. ⌜ Put (now (out .entry)) (now (out .exit)) at r (stepLines (productIn (now (m .entry))) (now (steps .entry)) count) ⌝ }
 {
+    let shape = lent::shape(m);
+    let mut q = shape.startstate as usize;
     let mut next = print::place(out.len(), at);
     let mut i: usize = 0;
     while i < count {
-        next = put_step(out, next, rulerows, moverows, (i + 1) as u16, steps[i]);
+        q = state_after(m, steps[i], q);
+        next = put_step(out, next, m, (i + 1) as u16, steps[i], q as u16);
         i += 1;
     }
     next
@@ -96,15 +92,15 @@ fn least(a: usize, b: usize) -> usize
 // Puts a violation of whose trace the first `count` steps are there: all of them, or as many as were not cut.
 pub fn put_violation(
     out: &mut [u8],
-    m: Model,
+    m: &Lent,
     whole: bool,
     rounds: u16,
     steps: &[u16],
     count: usize,
 ) -> usize
-    ensures { λ r. ⌜ Put (now (out .entry)) (now (out .exit)) 0 r (violationBytes m whole rounds (now (steps .entry)) (shown (length (now (steps .entry))) count)) ⌝ }
+    ensures { λ r. ⌜ Put (now (out .entry)) (now (out .exit)) 0 r (violationBytes (modelIn (now (m .entry))) whole rounds (now (steps .entry)) (shown (length (now (steps .entry))) count)) ⌝ }
 {
     let n = least(count, least(steps.len(), ROOM));
     let next = put_first(out, whole, rounds, n as u16);
-    put_steps(out, next, &m.rulerows, &m.moverows, steps, n)
+    put_steps(out, next, m, steps, n)
 }

@@ -1,4 +1,5 @@
 -- `culprit::some_head` meets its contract. The invariants are those of a search: nothing was found yet. Assumes nothing.
+use Rattle.lent.specs.Lending.{productIn}
 use borrow.Author.Needs.{needs}
 use mathlib.Core.Option.{none}
 use mathlib.Core.Path.{_≡_, sym, ap}
@@ -13,16 +14,16 @@ use Rattle.culprit.proofs.some_head.Statement.{statement}
 use Rattle.culprit.proofs.some_head.Tie as tie
 
 abbrev Inv-symbols : tie.InvT-symbols
-Inv-symbols finals heads size states symbols q g₀ g = (g ≤ size .symbols) × (firstOf (headAt finals (size .symbols) (size .states) heads q) g ≡ none)
+Inv-symbols m heads size states symbols q g₀ g = (g ≤ size .symbols) × (firstOf (headAt (productIn m .final) (size .symbols) (size .states) heads q) g ≡ none)
 
 abbrev μ-symbols : tie.MeasureT-symbols
-μ-symbols finals heads size states symbols q g₀ g = size .symbols - g
+μ-symbols m heads size states symbols q g₀ g = size .symbols - g
 
 abbrev Inv-found : tie.InvT-found
-Inv-found finals heads size states symbols q₀ q = (q ≤ size .states) × (firstOf (headOf finals (size .symbols) (size .states) heads) q ≡ none)
+Inv-found m heads size states symbols q₀ q = (q ≤ size .states) × (firstOf (headOf (productIn m .final) (size .symbols) (size .states) heads) q ≡ none)
 
 abbrev μ-found : tie.MeasureT-found
-μ-found finals heads size states symbols q₀ q = size .states - q
+μ-found m heads size states symbols q₀ q = size .states - q
 
 cast-states : tie.Need-cast-states Inv-symbols μ-symbols Inv-found μ-found
 cast-states c = search needs
@@ -50,7 +51,7 @@ symbols-again c =
     let a = c .before .before .before .before .before .before .before .before .before .args in
     let q = c .before .before .before .before .before .found .q in
     let w = c .before .before .before .symbols in
-    (omega arith, sought-more (guiltyHead (a .finals .now) (a .size .symbols) (a .size .states) (a .heads .now) q) (head q) (w .g) (w .inv .1) (c .before .guilty-head .ensures) (c .if2 .left))
+    (omega arith, sought-more (guiltyHead (productIn (a .m .now) .final) (a .size .symbols) (a .size .states) (a .heads .now) q) (head q) (w .g) (w .inv .1) (c .before .guilty-head .ensures) (c .if2 .left))
 
 add-q : tie.Need-add-q Inv-symbols μ-symbols Inv-found μ-found
 add-q c = search needs
@@ -61,19 +62,19 @@ found-less c = search needs
 found-again : tie.Need-found-again Inv-symbols μ-symbols Inv-found μ-found
 found-again c =
     let a = c .before .before .before .before .before .before .before .args in
-    (omega arith, first-more (headOf (a .finals .now) (a .size .symbols) (a .size .states) (a .heads .now)) (c .before .before .before .found .q) (c .before .before .before .found .inv .1) (first-done (headAt (a .finals .now) (a .size .symbols) (a .size .states) (a .heads .now) (c .before .before .before .found .q)) (a .size .symbols) (c .before .symbols .g) (c .before .symbols .inv .0) (omega arith) (c .before .symbols .inv .1)))
+    (omega arith, first-more (headOf (productIn (a .m .now) .final) (a .size .symbols) (a .size .states) (a .heads .now)) (c .before .before .before .found .q) (c .before .before .before .found .inv .1) (first-done (headAt (productIn (a .m .now) .final) (a .size .symbols) (a .size .states) (a .heads .now) (c .before .before .before .found .q)) (a .size .symbols) (c .before .symbols .g) (c .before .symbols .inv .0) (omega arith) (c .before .symbols .inv .1)))
 
 returns : tie.Need-returns Inv-symbols μ-symbols Inv-found μ-found
 returns c =
     let a = c .before .before .before .before .before .args in
-    sym (ap goalAs (first-done (headOf (a .finals .now) (a .size .symbols) (a .size .states) (a .heads .now)) (a .size .states) (c .before .found .q) (c .before .found .inv .0) (c .if1 .taken) (c .before .found .inv .1)))
+    sym (ap goalAs (first-done (headOf (productIn (a .m .now) .final) (a .size .symbols) (a .size .states) (a .heads .now)) (a .size .states) (c .before .found .q) (c .before .found .inv .0) (c .if1 .taken) (c .before .found .inv .1)))
 
 returns-2 : tie.Need-returns-2 Inv-symbols μ-symbols Inv-found μ-found
 returns-2 c =
     let a = c .before .before .before .before .before .before .before .before .before .args in
     let o = c .before .before .before .before .before .found in
     let w = c .before .before .before .symbols in
-    sym (ap goalAs (first-here (headOf (a .finals .now) (a .size .symbols) (a .size .states) (a .heads .now)) (a .size .states) (o .q) (head (o .q) (w .g)) (omega arith) (o .inv .1) (sought-here (guiltyHead (a .finals .now) (a .size .symbols) (a .size .states) (a .heads .now) (o .q)) (head (o .q)) (w .g) (w .inv .1) (c .before .guilty-head .ensures) (a .size .symbols) (omega arith) (c .if2 .taken))))
+    sym (ap goalAs (first-here (headOf (productIn (a .m .now) .final) (a .size .symbols) (a .size .states) (a .heads .now)) (a .size .states) (o .q) (head (o .q) (w .g)) (omega arith) (o .inv .1) (sought-here (guiltyHead (productIn (a .m .now) .final) (a .size .symbols) (a .size .states) (a .heads .now) (o .q)) (head (o .q)) (w .g) (w .inv .1) (c .before .guilty-head .ensures) (a .size .symbols) (omega arith) (c .if2 .taken))))
 
 pub some-head-spec : {M : Type 1} → statement M
 some-head-spec =

@@ -1,4 +1,5 @@
 -- `culprit::some_triple` meets its contract. Assumes nothing.
+use Rattle.lent.specs.Lending.{productIn}
 use borrow.Author.Needs.{needs}
 use mathlib.Core.Option.{none}
 use mathlib.Core.Path.{_≡_, sym, ap}
@@ -13,10 +14,10 @@ use Rattle.culprit.proofs.some_triple.Statement.{statement}
 use Rattle.culprit.proofs.some_triple.Tie as tie
 
 abbrev Inv-states : tie.InvT-states
-Inv-states finals triples size s a states e₀ e = (e ≤ size .states) × (firstOf (tripleAt finals (size .symbols) (size .states) triples s a) e ≡ none)
+Inv-states m triples size s a states e₀ e = (e ≤ size .states) × (firstOf (tripleAt (productIn m .final) (size .symbols) (size .states) triples s a) e ≡ none)
 
 abbrev μ-states : tie.MeasureT-states
-μ-states finals triples size s a states e₀ e = size .states - e
+μ-states m triples size s a states e₀ e = size .states - e
 
 cast-states : tie.Need-cast-states Inv-states μ-states
 cast-states c = search needs
@@ -31,7 +32,7 @@ returns : tie.Need-returns Inv-states μ-states
 returns c =
     let a = c .before .before .before .before .before .before .args in
     let w = c .before .before .before .states in
-    sym (ap goalAs (sought-here (guiltyTriple (a .finals .now) (a .size .symbols) (a .size .states) (a .triples .now) (a .s) (a .a)) (triple (a .s) (a .a)) (w .e) (w .inv .1) (c .before .guilty-triple .ensures) (a .size .states) (omega arith) (c .if1 .taken)))
+    sym (ap goalAs (sought-here (guiltyTriple (productIn (a .m .now) .final) (a .size .symbols) (a .size .states) (a .triples .now) (a .s) (a .a)) (triple (a .s) (a .a)) (w .e) (w .inv .1) (c .before .guilty-triple .ensures) (a .size .states) (omega arith) (c .if1 .taken)))
 
 add-e : tie.Need-add-e Inv-states μ-states
 add-e c = search needs
@@ -43,12 +44,12 @@ states-again : tie.Need-states-again Inv-states μ-states
 states-again c =
     let a = c .before .before .before .before .before .before .args in
     let w = c .before .before .before .states in
-    (omega arith, sought-more (guiltyTriple (a .finals .now) (a .size .symbols) (a .size .states) (a .triples .now) (a .s) (a .a)) (triple (a .s) (a .a)) (w .e) (w .inv .1) (c .before .guilty-triple .ensures) (c .if1 .left))
+    (omega arith, sought-more (guiltyTriple (productIn (a .m .now) .final) (a .size .symbols) (a .size .states) (a .triples .now) (a .s) (a .a)) (triple (a .s) (a .a)) (w .e) (w .inv .1) (c .before .guilty-triple .ensures) (c .if1 .left))
 
 returns-2 : tie.Need-returns-2 Inv-states μ-states
 returns-2 c =
     let a = c .before .before .before .before .args in
-    sym (ap goalAs (first-done (tripleAt (a .finals .now) (a .size .symbols) (a .size .states) (a .triples .now) (a .s) (a .a)) (a .size .states) (c .before .states .e) (c .before .states .inv .0) (omega arith) (c .before .states .inv .1)))
+    sym (ap goalAs (first-done (tripleAt (productIn (a .m .now) .final) (a .size .symbols) (a .size .states) (a .triples .now) (a .s) (a .a)) (a .size .states) (c .before .states .e) (c .before .states .inv .0) (omega arith) (c .before .states .inv .1)))
 
 pub some-triple-spec : {M : Type 1} → statement M
 some-triple-spec =

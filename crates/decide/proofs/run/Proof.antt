@@ -1,118 +1,96 @@
--- `decide::run` meets its contract. Assumes nothing.
-use mathlib.Core.Path.{refl}
-use native.Mathlib.Omega.{arith}
+-- `decide::run` meets its contract: the start of the rounds, and what they leave. Assumes nothing.
+use mathlib.Core.Path.{sym, _∙_}
+use denote.Ref.{now}
 use borrow.Author.Needs.{needs}
-use Rattle.model.specs.Model.{productOf}
-use Rattle.model.specs.Valid.{ofParts}
 use Rattle.model.proofs.Valid.{valid-sizes}
+use Rattle.lent.specs.Lending.{ofLent, modelIn}
 use Rattle.decide.proofs.Emptied.{empty-first}
-use Rattle.decide.proofs.Starting.{q-in, g-in, one-low, starts, as-long, ran}
+use Rattle.decide.proofs.Framed.{same-rows}
+use Rattle.decide.proofs.Tested.{steps-read}
+use Rattle.decide.proofs.Starting.{symbol-in, driving, heads-same, triples-same, ran}
 use Rattle.decide.proofs.run.Statement.{statement}
 use Rattle.decide.proofs.run.Tie as tie
 
-cast-q : tie.Need-cast-q
-cast-q c = search needs
-
-cast-g : tie.Need-cast-g
-cast-g c = search needs
+goal-of-requires : tie.Need-goal-of-requires
+goal-of-requires c κs = search needs
 
 start-requires : tie.Need-start-requires
 start-requires c κs = search needs
 
-cast-class-steps : tie.Need-cast-class-steps
-cast-class-steps c = search needs
-
 class-steps-requires : tie.Need-class-steps-requires
 class-steps-requires c κs = search needs
 
-symbols-requires : tie.Need-symbols-requires
-symbols-requires c κs = search needs
-
-sort-rules-requires : tie.Need-sort-rules-requires
-sort-rules-requires c κs = (valid-sizes _ (c .before .before .before .before .before .before .before .before .before .before .before .before .before .before .before .before .pre .valid-model) .rules, (empty-first 384, empty-first 4))
-
-shl-collect : tie.Need-shl-collect
-shl-collect c = omega (arith, g-in _ (c .before .before .before .before .before .before .before .before .before .before .before .before .before .before .before .before .before .before .pre .valid-model))
-
-collect-requires : tie.Need-collect-requires
-collect-requires c κs = let s = c .before .before .before .before .before .before .before .before .before .before .before .before .before .before .before .before .before .before in (omega arith, (one-low (s .args .shape .startsymbol) (g-in _ (s .pre .valid-model)), refl))
-
-final-states-requires : tie.Need-final-states-requires
-final-states-requires c κs = search needs
-
-shl-hd : tie.Need-shl-hd
-shl-hd c = omega (arith, q-in _ (c .before .before .before .before .before .before .before .before .before .before .before .before .before .before .before .before .before .before .before .before .pre .valid-model))
-
-mul-hd : tie.Need-mul-hd
-mul-hd c = let h = g-in _ (c .before .before .before .before .before .before .before .before .before .before .before .before .before .before .before .before .before .before .before .before .pre .valid-model) in search needs
-
-array-write-hd : tie.Need-array-write-hd
-array-write-hd c = g-in _ (c .before .before .before .before .before .before .before .before .before .before .before .before .before .before .before .before .before .before .before .before .pre .valid-model)
+first-rules-requires : tie.Need-first-rules-requires
+unfolding modelIn
+first-rules-requires c κs =
+    let goal = c .before .before .before .before .before .before .before .before .before in
+    let s = goal .before .before .before in
+    let v = s .pre .1 .valid-model in
+    (valid-sizes _ v .rules, (symbol-in _ v (same-rows (now (s .args .m))) (goal .goal-of .ensures), empty-first 384))
 
 run-requires : tie.Need-run-requires
+unfolding modelIn
 run-requires c κs =
-    let s = c .before .before .before .before .before .before .before .before .before .before .before .before .before .before .before .before .before .before .before .before .before .before .before .before .before .before .before in
-    let m = ofParts (s .args .shape) (s .args .rulerows .now) (s .args .moverows .now) (s .args .shows .now) (s .args .finals .now) in (
-      productOf m,
-      starts m (s .pre .valid-model) (s .pre) (c .before .before .before .before .before .before .before .before .before .before .before .before .before .before .before .before .before .before .before .before .start .ensures)
-          (c .before .before .before .before .before .before .before .before .before .before .sort-rules .ensures .uses) (c .before .before .before .before .before .before .before .before .before .before .sort-rules .ensures .exits)
-          (c .before .before .before .before .before .before .before .before .collect .ensures) (c .before .before .before .before .before .before .before .before .before .before .before .before .before .symbols .ensures)
-          (c .before .before .before .before .before .before .before .before .before .before .before .before .before .before .class-steps .ensures) (c .before .before .before .before .before .before .before .final-states .ensures),
-    )
+    let built = c .before .before .before .before in
+    let made = built .before .before in
+    let begun = made .before .before .before .before .before in
+    let goal = begun .before .before .before in
+    let s = goal .before .before .before in
+    let cells = now (s .args .m) in
+    let m = ofLent (s .args .shape) cells in
+    let tg-is = made .class-steps .ensures ∙ sym (steps-read cells (s .pre .0)) in
+    driving m (s .pre .1 .valid-model) (same-rows cells) (s .pre .1) (goal .goal-of .ensures) (begun .start .ensures) (built .first-rules .ensures) tg-is
 
 same-length : tie.Need-same-length
+unfolding modelIn
 same-length c =
-    let s = c .before .before .before .before .before .before .before .before .before .before .before .before .before .before .before .before .before .before .before .before .before .before .before .before .before .before .before .before .before .before .before .before in
-    let m = ofParts (s .args .shape) (s .args .rulerows .now) (s .args .moverows .now) (s .args .shows .now) (s .args .finals .now) in
-    as-long m (s .pre .valid-model) (s .pre) (c .before .before .before .before .before .before .before .before .before .before .before .before .before .before .before .before .before .before .before .before .before .before .before .before .before .start .ensures)
-    (c .before .before .before .before .before .before .before .before .before .before .before .before .before .before .before .sort-rules .ensures .uses)
-    (c .before .before .before .before .before .before .before .before .before .before .before .before .before .before .before .sort-rules .ensures .exits)
-    (c .before .before .before .before .before .before .before .before .before .before .before .before .before .collect .ensures) (c .before .before .before .before .before .before .before .before .before .before .before .before .before .before .before .before .before .before .symbols .ensures)
-    (c .before .before .before .before .before .before .before .before .before .before .before .before .before .before .before .before .before .before .before .class-steps .ensures)
-    (c .before .before .before .before .before .before .before .before .before .before .before .before .final-states .ensures)
-    (c .before .before .before .before .run .ensures) .0
+    let ran = c .before .before .before .before in
+    let built = ran .before .before .before .before .before in
+    let made = built .before .before in
+    let begun = made .before .before .before .before .before in
+    let goal = begun .before .before .before in
+    let s = goal .before .before .before in
+    let cells = now (s .args .m) in
+    let m = ofLent (s .args .shape) cells in
+    let tg-is = made .class-steps .ensures ∙ sym (steps-read cells (s .pre .0)) in
+    heads-same m (s .pre .1 .valid-model) (same-rows cells) (s .pre .1) (goal .goal-of .ensures) (begun .start .ensures) (built .first-rules .ensures) tg-is (ran .run .ensures)
 
 same-length-2 : tie.Need-same-length-2
+unfolding modelIn
 same-length-2 c =
-    let s = c .before .before .before .before .before .before .before .before .before .before .before .before .before .before .before .before .before .before .before .before .before .before .before .before .before .before .before .before .before .before .before .before in
-    let m = ofParts (s .args .shape) (s .args .rulerows .now) (s .args .moverows .now) (s .args .shows .now) (s .args .finals .now) in
-    as-long m (s .pre .valid-model) (s .pre) (c .before .before .before .before .before .before .before .before .before .before .before .before .before .before .before .before .before .before .before .before .before .before .before .before .before .start .ensures)
-    (c .before .before .before .before .before .before .before .before .before .before .before .before .before .before .before .sort-rules .ensures .uses)
-    (c .before .before .before .before .before .before .before .before .before .before .before .before .before .before .before .sort-rules .ensures .exits)
-    (c .before .before .before .before .before .before .before .before .before .before .before .before .before .collect .ensures) (c .before .before .before .before .before .before .before .before .before .before .before .before .before .before .before .before .before .before .symbols .ensures)
-    (c .before .before .before .before .before .before .before .before .before .before .before .before .before .before .before .before .before .before .before .class-steps .ensures)
-    (c .before .before .before .before .before .before .before .before .before .before .before .before .final-states .ensures)
-    (c .before .before .before .before .run .ensures) .1
+    let ran = c .before .before .before .before in
+    let built = ran .before .before .before .before .before in
+    let made = built .before .before in
+    let begun = made .before .before .before .before .before in
+    let goal = begun .before .before .before in
+    let s = goal .before .before .before in
+    let cells = now (s .args .m) in
+    let m = ofLent (s .args .shape) cells in
+    let tg-is = made .class-steps .ensures ∙ sym (steps-read cells (s .pre .0)) in
+    triples-same m (s .pre .1 .valid-model) (same-rows cells) (s .pre .1) (goal .goal-of .ensures) (begun .start .ensures) (built .first-rules .ensures) tg-is (ran .run .ensures)
 
 returns : tie.Need-returns
+unfolding modelIn
 returns c =
-    let s = c .before .before .before .before .before .before .before .before .before .before .before .before .before .before .before .before .before .before .before .before .before .before .before .before .before .before .before .before .before .before .before .before in
-    let m = ofParts (s .args .shape) (s .args .rulerows .now) (s .args .moverows .now) (s .args .shows .now) (s .args .finals .now) in
-    ran m (s .pre .valid-model) (s .pre) (c .before .before .before .before .before .before .before .before .before .before .before .before .before .before .before .before .before .before .before .before .before .before .before .before .before .start .ensures)
-    (c .before .before .before .before .before .before .before .before .before .before .before .before .before .before .before .sort-rules .ensures .uses)
-    (c .before .before .before .before .before .before .before .before .before .before .before .before .before .before .before .sort-rules .ensures .exits)
-    (c .before .before .before .before .before .before .before .before .before .before .before .before .before .collect .ensures) (c .before .before .before .before .before .before .before .before .before .before .before .before .before .before .before .before .before .before .symbols .ensures)
-    (c .before .before .before .before .before .before .before .before .before .before .before .before .before .before .before .before .before .before .before .class-steps .ensures)
-    (c .before .before .before .before .before .before .before .before .before .before .before .before .final-states .ensures)
-    (c .before .before .before .before .run .ensures)
+    let went = c .before .before .before .before in
+    let built = went .before .before .before .before .before in
+    let made = built .before .before in
+    let begun = made .before .before .before .before .before in
+    let goal = begun .before .before .before in
+    let s = goal .before .before .before in
+    let cells = now (s .args .m) in
+    let m = ofLent (s .args .shape) cells in
+    let tg-is = made .class-steps .ensures ∙ sym (steps-read cells (s .pre .0)) in
+    ran m (s .pre .1 .valid-model) (same-rows cells) (s .pre .1) (goal .goal-of .ensures) (begun .start .ensures) (built .first-rules .ensures) tg-is (went .run .ensures)
 
 pub run-spec : {M : Type 1} → statement M
 run-spec =
     tie.close
     (tie.spec
-    cast-q
-    cast-g
+    goal-of-requires
     start-requires
-    cast-class-steps
     class-steps-requires
-    symbols-requires
-    sort-rules-requires
-    shl-collect
-    collect-requires
-    final-states-requires
-    shl-hd
-    mul-hd
-    array-write-hd
+    first-rules-requires
     run-requires
     same-length
     same-length-2

@@ -5,6 +5,12 @@ use borrow.Author.Needs.{needs}
 use Rattle.draft.proofs.put_final.Statement.{statement}
 use Rattle.draft.proofs.put_final.Tie as tie
 
+array-read-i : tie.Need-array-read-i
+array-read-i c = search needs
+
+cast-i : tie.Need-cast-i
+cast-i c = search needs
+
 slice-write-finals : tie.Need-slice-write-finals
 slice-write-finals c = search needs
 
@@ -18,4 +24,4 @@ returns-2 : tie.Need-returns-2
 returns-2 c = sym (set-out _ _ _ (c .if1 .left))
 
 pub put-final-spec : {M : Type 1} → statement M
-put-final-spec = tie.close (tie.spec slice-write-finals same-length returns returns-2)
+put-final-spec = tie.close (tie.spec array-read-i cast-i slice-write-finals same-length returns returns-2)

@@ -1,5 +1,6 @@
 -- `explain::explain` meets its contract. Assumes nothing.
 use native.Mathlib.Omega.{arith}
+use Rattle.lent.specs.Lending.{productIn}
 use Rattle.explain.specs.Search.{whyIn}
 use Rattle.explain.proofs.Tried.{by-rank}
 use Rattle.explain.proofs.explain.Statement.{statement}
@@ -20,7 +21,7 @@ first-cause-requires c κs = tt
 returns-2 : tie.Need-returns-2
 returns-2 c =
     let a = c .before .before .before .before .before .before .args in
-    rw (← c .before .before .rank-of .ensures) (by-rank (whyIn (a .rules .now) (a .moves .now) (a .shows .now) (a .n .size .symbols) (a .n .size .states) (a .heads .now) (a .triples .now) (a .n .rules) (a .n .moves)) (a .f) (c .before .before .rank-of .result) (c .before .if1 .left) (c .first-cause .ensures))
+    rw (← c .before .before .rank-of .ensures) (by-rank (whyIn (productIn (a .m .now)) (a .n .size .symbols) (a .n .size .states) (a .heads .now) (a .triples .now) (a .n .rules) (a .n .moves)) (a .f) (c .before .before .rank-of .result) (c .before .if1 .left) (c .first-cause .ensures))
 
 pub explain-spec : {M : Type 1} → statement M
 explain-spec = tie.close (tie.spec rank-of-requires returns sub-first-cause first-cause-requires returns-2)

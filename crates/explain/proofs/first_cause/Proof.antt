@@ -1,6 +1,7 @@
 -- `explain::first_cause` meets its contract. The invariant of each loop is that nothing was found below its number; what is found first leaves all three.
 -- Assumes nothing.
 use borrow.Author.Needs.{needs}
+use Rattle.lent.specs.Lending.{productIn}
 use Rattle.culprit.specs.First.{firstOf}
 use Rattle.explain.specs.Search.{below, triedAt, byMove, byRule}
 use Rattle.explain.specs.Answers.{foundAs}
@@ -14,22 +15,22 @@ use Rattle.explain.proofs.first_cause.Statement.{statement}
 use Rattle.explain.proofs.first_cause.Tie as tie
 
 abbrev Inv-states : tie.InvT-states
-Inv-states rules moves shows heads triples k f size states ruleCount moveCount r v x₀ x = (x ≤ size .states) × (firstOf (triedAt rules moves shows (below (size .symbols) (size .states) heads triples (suc k)) f r v) x ≡ none)
+Inv-states m heads triples k f size states ruleCount moveCount r v x₀ x = (x ≤ size .states) × (firstOf (triedAt (productIn m) (below (size .symbols) (size .states) heads triples (suc k)) f r v) x ≡ none)
 
 abbrev μ-states : tie.MeasureT-states
-μ-states rules moves shows heads triples k f size states ruleCount moveCount r v x₀ x = size .states - x
+μ-states m heads triples k f size states ruleCount moveCount r v x₀ x = size .states - x
 
 abbrev Inv-moves : tie.InvT-moves
-Inv-moves rules moves shows heads triples k f size states ruleCount moveCount r v₀ v = (v ≤ moveCount) × (firstOf (byMove rules moves shows (below (size .symbols) (size .states) heads triples (suc k)) f (size .states) r) v ≡ none)
+Inv-moves m heads triples k f size states ruleCount moveCount r v₀ v = (v ≤ moveCount) × (firstOf (byMove (productIn m) (below (size .symbols) (size .states) heads triples (suc k)) f (size .states) r) v ≡ none)
 
 abbrev μ-moves : tie.MeasureT-moves
-μ-moves rules moves shows heads triples k f size states ruleCount moveCount r v₀ v = moveCount - v
+μ-moves m heads triples k f size states ruleCount moveCount r v₀ v = moveCount - v
 
 abbrev Inv-found : tie.InvT-found
-Inv-found rules moves shows heads triples k f size states ruleCount moveCount r₀ r = (r ≤ ruleCount) × (firstOf (byRule rules moves shows (below (size .symbols) (size .states) heads triples (suc k)) f (moveCount) (size .states)) r ≡ none)
+Inv-found m heads triples k f size states ruleCount moveCount r₀ r = (r ≤ ruleCount) × (firstOf (byRule (productIn m) (below (size .symbols) (size .states) heads triples (suc k)) f (moveCount) (size .states)) r ≡ none)
 
 abbrev μ-found : tie.MeasureT-found
-μ-found rules moves shows heads triples k f size states ruleCount moveCount r₀ r = ruleCount - r
+μ-found m heads triples k f size states ruleCount moveCount r₀ r = ruleCount - r
 
 cast-states : tie.Need-cast-states Inv-states μ-states Inv-moves μ-moves Inv-found μ-found
 cast-states c = search needs
@@ -64,7 +65,7 @@ states-again c =
     let r = c .before .before .before .before .before .before .before .before .found .r in
     let v = c .before .before .before .before .before .before .moves .v in
     let x = c .before .before .before .before .states .x in
-    (omega arith, first-more (triedAt (a .rules .now) (a .moves .now) (a .shows .now) (below (a .n .size .symbols) (a .n .size .states) (a .heads .now) (a .triples .now) (suc (a .k))) (a .f) r v) x (c .before .before .before .before .states .inv .1) (found-none (triedAt (a .rules .now) (a .moves .now) (a .shows .now) (below (a .n .size .symbols) (a .n .size .states) (a .heads .now) (a .triples .now) (suc (a .k))) (a .f) r v x) (c .before .before .tried .ensures) (c .enum-told .given .1)))
+    (omega arith, first-more (triedAt (productIn (a .m .now)) (below (a .n .size .symbols) (a .n .size .states) (a .heads .now) (a .triples .now) (suc (a .k))) (a .f) r v) x (c .before .before .before .before .states .inv .1) (found-none (triedAt (productIn (a .m .now)) (below (a .n .size .symbols) (a .n .size .states) (a .heads .now) (a .triples .now) (suc (a .k))) (a .f) r v x) (c .before .before .tried .ensures) (c .enum-told .given .1)))
 
 add-v : tie.Need-add-v Inv-states μ-states Inv-moves μ-moves Inv-found μ-found
 add-v c = search needs
@@ -77,7 +78,7 @@ moves-again c =
     let a = c .before .before .before .before .before .before .before .before .before .before .args in
     let r = c .before .before .before .before .before .found .r in
     let v = c .before .before .before .moves .v in
-    (omega arith, first-more (byMove (a .rules .now) (a .moves .now) (a .shows .now) (below (a .n .size .symbols) (a .n .size .states) (a .heads .now) (a .triples .now) (suc (a .k))) (a .f) (a .n .size .states) r) v (c .before .before .before .moves .inv .1) (first-done (triedAt (a .rules .now) (a .moves .now) (a .shows .now) (below (a .n .size .symbols) (a .n .size .states) (a .heads .now) (a .triples .now) (suc (a .k))) (a .f) r v) (a .n .size .states) (c .before .states .x) (c .before .states .inv .0) (omega arith) (c .before .states .inv .1)))
+    (omega arith, first-more (byMove (productIn (a .m .now)) (below (a .n .size .symbols) (a .n .size .states) (a .heads .now) (a .triples .now) (suc (a .k))) (a .f) (a .n .size .states) r) v (c .before .before .before .moves .inv .1) (first-done (triedAt (productIn (a .m .now)) (below (a .n .size .symbols) (a .n .size .states) (a .heads .now) (a .triples .now) (suc (a .k))) (a .f) r v) (a .n .size .states) (c .before .states .x) (c .before .states .inv .0) (omega arith) (c .before .states .inv .1)))
 
 add-r : tie.Need-add-r Inv-states μ-states Inv-moves μ-moves Inv-found μ-found
 add-r c = search needs
@@ -89,17 +90,17 @@ found-again : tie.Need-found-again Inv-states μ-states Inv-moves μ-moves Inv-f
 found-again c =
     let a = c .before .before .before .before .before .before .before .before .args in
     let r = c .before .before .before .found .r in
-    (omega arith, first-more (byRule (a .rules .now) (a .moves .now) (a .shows .now) (below (a .n .size .symbols) (a .n .size .states) (a .heads .now) (a .triples .now) (suc (a .k))) (a .f) (a .n .moves) (a .n .size .states)) r (c .before .before .before .found .inv .1) (first-done (byMove (a .rules .now) (a .moves .now) (a .shows .now) (below (a .n .size .symbols) (a .n .size .states) (a .heads .now) (a .triples .now) (suc (a .k))) (a .f) (a .n .size .states) r) (a .n .moves) (c .before .moves .v) (c .before .moves .inv .0) (omega arith) (c .before .moves .inv .1)))
+    (omega arith, first-more (byRule (productIn (a .m .now)) (below (a .n .size .symbols) (a .n .size .states) (a .heads .now) (a .triples .now) (suc (a .k))) (a .f) (a .n .moves) (a .n .size .states)) r (c .before .before .before .found .inv .1) (first-done (byMove (productIn (a .m .now)) (below (a .n .size .symbols) (a .n .size .states) (a .heads .now) (a .triples .now) (suc (a .k))) (a .f) (a .n .size .states) r) (a .n .moves) (c .before .moves .v) (c .before .moves .inv .0) (omega arith) (c .before .moves .inv .1)))
 
 returns : tie.Need-returns Inv-states μ-states Inv-moves μ-moves Inv-found μ-found
 returns c =
     let a = c .before .before .before .before .before .before .args in
-    sym (ap foundAs (first-done (byRule (a .rules .now) (a .moves .now) (a .shows .now) (below (a .n .size .symbols) (a .n .size .states) (a .heads .now) (a .triples .now) (suc (a .k))) (a .f) (a .n .moves) (a .n .size .states)) (a .n .rules) (c .before .found .r) (c .before .found .inv .0) (c .if1 .taken) (c .before .found .inv .1)))
+    sym (ap foundAs (first-done (byRule (productIn (a .m .now)) (below (a .n .size .symbols) (a .n .size .states) (a .heads .now) (a .triples .now) (suc (a .k))) (a .f) (a .n .moves) (a .n .size .states)) (a .n .rules) (c .before .found .r) (c .before .found .inv .0) (c .if1 .taken) (c .before .found .inv .1)))
 
 returns-2 : tie.Need-returns-2 Inv-states μ-states Inv-moves μ-moves Inv-found μ-found
 returns-2 c =
     let a = c .before .before .before .before .before .before .before .before .before .before .before .before .before .before .args in
-    search-here (a .rules .now) (a .moves .now) (a .shows .now) (below (a .n .size .symbols) (a .n .size .states) (a .heads .now) (a .triples .now) (suc (a .k))) (a .f) (a .n .rules) (a .n .moves) (a .n .size .states) (c .before .before .before .before .before .before .before .before .before .found .r) (c .before .before .before .before .before .before .before .moves .v) (c .before .before .before .before .before .states .x) (omega arith) (c .before .before .before .before .before .before .before .before .before .found .inv .1) (omega arith) (c .before .before .before .before .before .before .before .moves .inv .1) (omega arith) (c .before .before .before .before .before .states .inv .1) (c .before .before .before .tried .ensures) (c .before .w .given .1)
+    search-here (productIn (a .m .now)) (below (a .n .size .symbols) (a .n .size .states) (a .heads .now) (a .triples .now) (suc (a .k))) (a .f) (a .n .rules) (a .n .moves) (a .n .size .states) (c .before .before .before .before .before .before .before .before .before .found .r) (c .before .before .before .before .before .before .before .moves .v) (c .before .before .before .before .before .states .x) (omega arith) (c .before .before .before .before .before .before .before .before .before .found .inv .1) (omega arith) (c .before .before .before .before .before .before .before .moves .inv .1) (omega arith) (c .before .before .before .before .before .states .inv .1) (c .before .before .before .tried .ensures) (c .before .w .given .1)
 
 pub first-cause-spec : {M : Type 1} → statement M
 first-cause-spec =

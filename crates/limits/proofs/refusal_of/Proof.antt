@@ -53,15 +53,6 @@ move-refusal-requires c κs = tt
 enum-told-9 : tie.Need-enum-told-9
 enum-told-9 c = c .match .keys9
 
-enum-told-10 : tie.Need-enum-told-10
-enum-told-10 c = c .match .keys10
-
-enum-told-11 : tie.Need-enum-told-11
-enum-told-11 c = c .match .keys11
-
-enum-told-12 : tie.Need-enum-told-12
-enum-told-12 c = c .match .keys12
-
 returns : tie.Need-returns
 returns c = rw (c .before .enum-told .given .1) (c .size-refusal .ensures)
 
@@ -89,15 +80,6 @@ returns-8 c = rw (c .before .enum-told8 .given .1) (c .move-refusal .ensures)
 returns-9 : tie.Need-returns-9
 returns-9 c = rw (c .enum-told9 .given .1)
 
-returns-10 : tie.Need-returns-10
-returns-10 c = rw (c .enum-told10 .given .1)
-
-returns-11 : tie.Need-returns-11
-returns-11 c = rw (c .enum-told11 .given .1)
-
-returns-12 : tie.Need-returns-12
-returns-12 c = rw (c .enum-told12 .given .1)
-
 pub refusal-of-spec : {M : Type 1} → statement M
 refusal-of-spec =
     tie.close
@@ -119,9 +101,6 @@ refusal-of-spec =
     enum-told-8
     move-refusal-requires
     enum-told-9
-    enum-told-10
-    enum-told-11
-    enum-told-12
     returns
     returns-2
     returns-3
@@ -130,7 +109,4 @@ refusal-of-spec =
     returns-6
     returns-7
     returns-8
-    returns-9
-    returns-10
-    returns-11
-    returns-12)
+    returns-9)

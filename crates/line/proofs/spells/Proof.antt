@@ -1,53 +1,32 @@
--- `line::spells` meets its contract. Assumes nothing.
-use mathlib.Core.Path.{_≡_, sym, ap, _∙_}
-use mathlib.Core.Bool.{_||_}
-use Prim.Native.Nat.{_≤_, _-_}
-use lib.Dec.{eqb}
-use lib.ListN.{length, drop}
-use native.Mathlib.Omega.{arith}
-use Rattle.text.specs.Split.{sameBytes}
-use Rattle.text.proofs.Stops.{either-stop}
-use Rattle.numbers.specs.Field.{field}
-use Rattle.line.proofs.Spelled.{spelled-next, spelled-not, spelled-end}
+-- `line::spells` meets its contract, by the byte behind the word (Spelled). Assumes nothing.
+use mathlib.Core.Path.{sym, _∙_}
+use lib.Seq.{length-take-le}
+use Rattle.line.proofs.Spelled.{too-short, no-tab, tabbed}
 use borrow.Author.Needs.{needs}
+use native.Mathlib.Omega.{arith}
 use Rattle.line.proofs.spells.Statement.{statement}
 use Rattle.line.proofs.spells.Tie as tie
 
-abbrev Inv-loop : tie.InvT-loop
-Inv-loop s spelling i₀ i = (i ≤ length spelling) × (sameBytes (field (drop i s)) (drop i spelling) ≡ sameBytes (field s) spelling)
+returns : tie.Need-returns
+returns c = let a = c .before .before .before .args in too-short (a .s .now) (a .word .now) (c .if1 .taken)
 
-abbrev μ-loop : tie.MeasureT-loop
-μ-loop s spelling i₀ i = length spelling - i
+shared-slice-read-if2 : tie.Need-shared-slice-read-if2
+shared-slice-read-if2 c = search needs
 
-loop-holds : tie.Need-loop-holds Inv-loop μ-loop
-loop-holds c = search needs
+returns-2 : tie.Need-returns-2
+returns-2 c = let past = c .before .before in let a = past .before .before .before .args in no-tab (a .s .now) (a .word .now) (c .if2 .taken)
 
-byte-at-requires : tie.Need-byte-at-requires Inv-loop μ-loop
-byte-at-requires c κs = tt
+slice-aggregate-same : tie.Need-slice-aggregate-same
+slice-aggregate-same c = let past = c .before .before .before in sym (length-take-le _ (past .before .before .before .args .s .now) (omega (arith, past .if1 .left)))
 
-shared-slice-read-if1 : tie.Need-shared-slice-read-if1 Inv-loop μ-loop
-shared-slice-read-if1 c = search needs
+same-requires : tie.Need-same-requires
+same-requires c κs = tt
 
-returns : tie.Need-returns Inv-loop μ-loop
-returns c = let l = c .before .before .before .before .loop in let a = c .before .before .before .before .before .before .before .args in sym (spelled-not (a .s .now) (a .spelling .now) (l .i) (omega arith) (λ e. c .if1 .taken (c .before .before .byte-at .ensures ∙ e))) ∙ l .inv .1
-
-add-i : tie.Need-add-i Inv-loop μ-loop
-add-i c = omega arith
-
-loop-less : tie.Need-loop-less Inv-loop μ-loop
-loop-less c = omega arith
-
-loop-again : tie.Need-loop-again Inv-loop μ-loop
-loop-again c = let l = c .before .before .before .before .loop in let a = c .before .before .before .before .before .before .before .args in (omega arith, sym (spelled-next (a .s .now) (a .spelling .now) (l .i) (c .before .before .before .before .before .before .before .pre) (omega arith) (sym (c .before .before .byte-at .ensures) ∙ c .if1 .left)) ∙ l .inv .1)
-
-byte-at-requires-2 : tie.Need-byte-at-requires-2 Inv-loop μ-loop
-byte-at-requires-2 c κs = tt
-
-is-stop-requires : tie.Need-is-stop-requires Inv-loop μ-loop
-is-stop-requires c κs = tt
-
-returns-2 : tie.Need-returns-2 Inv-loop μ-loop
-returns-2 c = let l = c .before .before .before .loop in let a = c .before .before .before .before .before .before .args in c .is-stop .ensures ∙ ap (λ x. eqb x 9 || eqb x 10) (c .before .byte-at2 .ensures) ∙ either-stop 9 10 (a .s .now) (l .i) ∙ sym (spelled-end (a .s .now) (a .spelling .now) (l .i) (c .before .before .loop-test .left)) ∙ l .inv .1
+returns-3 : tie.Need-returns-3
+returns-3 c =
+    let tab = c .before .before in
+    let a = tab .before .before .before .before .before .args in
+    c .same .ensures ∙ tabbed (a .s .now) (a .word .now) (tab .if2 .left)
 
 pub spells-spec : {M : Type 1} → statement M
-spells-spec = tie.close (tie.spec Inv-loop μ-loop loop-holds byte-at-requires shared-slice-read-if1 returns add-i loop-less loop-again byte-at-requires-2 is-stop-requires returns-2)
+spells-spec = tie.close (tie.spec returns shared-slice-read-if2 returns-2 slice-aggregate-same same-requires returns-3)

@@ -1,12 +1,13 @@
 -- `recheck::check_table` meets its contract: at each of its ends the answer follows from the tests before. Assumes nothing.
-use borrow.Author.Needs.{needs}
-use denote.Ref.{now}
 use mathlib.Core.Path.{sym, subst}
 use lib.Dec.{T}
+use denote.Ref.{now}
+use borrow.Author.Needs.{needs}
 use borrow.Author.Tests.{not-false}
 use Rattle.model.proofs.Bounds.{is-valid}
 use Rattle.model.proofs.Counted.{passed}
-use Rattle.recheck.proofs.Reasons.{is-invalid, is-short, has-no-start, has-violating, is-open, is-accepted}
+use Rattle.lent.specs.Lending.{modelIn}
+use Rattle.recheck.proofs.Reasons.{is-invalid, is-short, has-no-start, has-violating, is-open, is-accepted, size-read, long-read, start-read, clean-read, found-read}
 use Rattle.recheck.proofs.check_table.Statement.{statement}
 use Rattle.recheck.proofs.check_table.Tie as tie
 
@@ -15,16 +16,23 @@ is-valid-requires c κs = search needs
 
 returns : tie.Need-returns
 returns c =
-    let a = c .before .before .before .before .args in
-    is-invalid (a .t1) (now (a .heads)) (now (a .triples)) (c .before .is-valid .ensures) (c .if1 .taken)
+    let checked = c .before in
+    let a = checked .before .before .before .args in
+    is-invalid (modelIn (now (a .m))) (now (a .heads)) (now (a .triples)) (checked .is-valid .ensures) (c .if1 .taken)
+
+shape-requires : tie.Need-shape-requires
+shape-requires c κs = search needs
 
 long-enough-requires : tie.Need-long-enough-requires
 long-enough-requires c κs = search needs
 
 returns-2 : tie.Need-returns-2
 returns-2 c =
-    let a = c .before .before .before .before .before .before .args in
-    is-short (a .t1) (now (a .heads)) (now (a .triples)) (c .before .before .before .is-valid .ensures) (c .before .before .if1 .left) (c .before .long-enough .ensures) (c .if2 .taken)
+    let long = c .before in
+    let read = long .before in
+    let checked = read .before .before in
+    let a = checked .before .before .before .args in
+    is-short (modelIn (now (a .m))) (now (a .heads)) (now (a .triples)) (checked .is-valid .ensures) (read .before .if1 .left) (long-read (now (a .m)) (now (a .heads)) (now (a .triples)) (read .shape .ensures) (long .long-enough .ensures)) (c .if2 .taken)
 
 cast-q : tie.Need-cast-q
 cast-q c = search needs
@@ -37,19 +45,40 @@ has-head-requires c κs = search needs
 
 returns-3 : tie.Need-returns-3
 returns-3 c =
-    let a = c .before .before .before .before .before .before .before .before .args in
-    has-no-start (a .t1) (now (a .heads)) (now (a .triples)) (c .before .before .before .before .before .is-valid .ensures) (c .before .before .before .before .if1 .left) (c .before .before .before .long-enough .ensures) (c .before .before .if2 .left) (c .before .has-head .ensures) (c .if3 .taken)
+    let start = c .before in
+    let long = start .before .before .before .before in
+    let read = long .before in
+    let checked = read .before .before in
+    let a = checked .before .before .before .args in
+    has-no-start (modelIn (now (a .m))) (now (a .heads)) (now (a .triples)) (checked .is-valid .ensures) (read .before .if1 .left) (long-read (now (a .m)) (now (a .heads)) (now (a .triples)) (read .shape .ensures) (long .long-enough .ensures)) (start .before .before .before .if2 .left)
+    (start-read (now (a .m)) (now (a .heads)) (now (a .triples)) (read .shape .ensures) (start .has-head .ensures)) (c .if3 .taken)
 
 is-clean-requires : tie.Need-is-clean-requires
 is-clean-requires c κs = search needs
 
 returns-4 : tie.Need-returns-4
 returns-4 c =
-    let a = c .before .before .before .before .before .before .before .before .before .before .before .before .args in
-    has-violating (a .t1) (now (a .heads)) (now (a .triples)) (c .before .before .before .before .before .before .before .before .before .is-valid .ensures) (c .before .before .before .before .before .before .before .before .if1 .left) (c .before .before .before .before .before .before .before .long-enough .ensures) (c .before .before .before .before .before .before .if2 .left) (c .before .before .before .before .before .has-head .ensures) (c .before .before .before .before .if3 .left) (c .before .is-clean .ensures) (c .if4 .taken)
+    let cleaned = c .before in
+    let start = cleaned .before .before in
+    let long = start .before .before .before .before in
+    let read = long .before in
+    let checked = read .before .before in
+    let a = checked .before .before .before .args in
+    has-violating (modelIn (now (a .m))) (now (a .heads)) (now (a .triples)) (checked .is-valid .ensures) (read .before .if1 .left) (long-read (now (a .m)) (now (a .heads)) (now (a .triples)) (read .shape .ensures) (long .long-enough .ensures)) (start .before .before .before .if2 .left)
+    (start-read (now (a .m)) (now (a .heads)) (now (a .triples)) (read .shape .ensures) (start .has-head .ensures)) (cleaned .before .if3 .left) (clean-read (now (a .m)) (now (a .heads)) (now (a .triples)) (read .shape .ensures) (cleaned .is-clean .ensures)) (c .if4 .taken)
 
 open-step-requires : tie.Need-open-step-requires
-open-step-requires c κs = (is-valid _ (c .before .before .before .before .before .before .before .before .before .is-valid .ensures) (not-false _ (c .before .before .before .before .before .before .before .before .if1 .left)), subst T (sym (passed (c .before .before .before .before .before .before .before .long-enough .ensures) (c .before .before .before .before .before .before .if2 .left))) tt)
+open-step-requires c κs =
+    let start = c .before .before .before in
+    let long = start .before .before .before .before in
+    let read = long .before in
+    let checked = read .before .before in
+    let a = checked .before .before .before .args in
+    record {
+      valid-model = is-valid _ (checked .is-valid .ensures) (not-false _ (read .before .if1 .left));
+      size-is = size-read (now (a .m)) (now (a .heads)) (now (a .triples)) (read .shape .ensures);
+      long = subst T (sym (passed (long-read (now (a .m)) (now (a .heads)) (now (a .triples)) (read .shape .ensures) (long .long-enough .ensures)) (start .before .before .before .if2 .left))) tt;
+    }
 
 enum-known-found : tie.Need-enum-known-found
 enum-known-found c = search needs
@@ -59,13 +88,29 @@ enum-told c = search needs
 
 returns-5 : tie.Need-returns-5
 returns-5 c =
-    let a = c .before .before .before .before .before .before .before .before .before .before .before .before .before .before .before .before .args in
-    is-open (a .t1) (now (a .heads)) (now (a .triples)) (c .before .before .before .before .before .before .before .before .before .before .before .before .before .is-valid .ensures) (c .before .before .before .before .before .before .before .before .before .before .before .before .if1 .left) (c .before .before .before .before .before .before .before .before .before .before .before .long-enough .ensures) (c .before .before .before .before .before .before .before .before .before .before .if2 .left) (c .before .before .before .before .before .before .before .before .before .has-head .ensures) (c .before .before .before .before .before .before .before .before .if3 .left) (c .before .before .before .before .before .is-clean .ensures) (c .before .before .before .before .if4 .left) (c .before .before .before .open-step .ensures) (c .before .found .given .1)
+    let sought = c .before .before .before in
+    let cleaned = sought .before .before in
+    let start = cleaned .before .before in
+    let long = start .before .before .before .before in
+    let read = long .before in
+    let checked = read .before .before in
+    let a = checked .before .before .before .args in
+    is-open (modelIn (now (a .m))) (now (a .heads)) (now (a .triples)) (checked .is-valid .ensures) (read .before .if1 .left) (long-read (now (a .m)) (now (a .heads)) (now (a .triples)) (read .shape .ensures) (long .long-enough .ensures)) (start .before .before .before .if2 .left)
+    (start-read (now (a .m)) (now (a .heads)) (now (a .triples)) (read .shape .ensures) (start .has-head .ensures)) (cleaned .before .if3 .left) (clean-read (now (a .m)) (now (a .heads)) (now (a .triples)) (read .shape .ensures) (cleaned .is-clean .ensures)) (sought .before .if4 .left)
+    (found-read (now (a .m)) (now (a .heads)) (now (a .triples)) (read .shape .ensures) (sought .open-step .ensures)) (c .before .found .given .1)
 
 returns-6 : tie.Need-returns-6
 returns-6 c =
-    let a = c .before .before .before .before .before .before .before .before .before .before .before .before .before .before .before .args in
-    is-accepted (a .t1) (now (a .heads)) (now (a .triples)) (c .before .before .before .before .before .before .before .before .before .before .before .before .is-valid .ensures) (c .before .before .before .before .before .before .before .before .before .before .before .if1 .left) (c .before .before .before .before .before .before .before .before .before .before .long-enough .ensures) (c .before .before .before .before .before .before .before .before .before .if2 .left) (c .before .before .before .before .before .before .before .before .has-head .ensures) (c .before .before .before .before .before .before .before .if3 .left) (c .before .before .before .before .is-clean .ensures) (c .before .before .before .if4 .left) (c .before .before .open-step .ensures) (c .enum-told .given .1)
+    let sought = c .before .before in
+    let cleaned = sought .before .before in
+    let start = cleaned .before .before in
+    let long = start .before .before .before .before in
+    let read = long .before in
+    let checked = read .before .before in
+    let a = checked .before .before .before .args in
+    is-accepted (modelIn (now (a .m))) (now (a .heads)) (now (a .triples)) (checked .is-valid .ensures) (read .before .if1 .left) (long-read (now (a .m)) (now (a .heads)) (now (a .triples)) (read .shape .ensures) (long .long-enough .ensures)) (start .before .before .before .if2 .left)
+    (start-read (now (a .m)) (now (a .heads)) (now (a .triples)) (read .shape .ensures) (start .has-head .ensures)) (cleaned .before .if3 .left) (clean-read (now (a .m)) (now (a .heads)) (now (a .triples)) (read .shape .ensures) (cleaned .is-clean .ensures)) (sought .before .if4 .left)
+    (found-read (now (a .m)) (now (a .heads)) (now (a .triples)) (read .shape .ensures) (sought .open-step .ensures)) (c .enum-told .given .1)
 
 pub check-table-spec : {M : Type 1} → statement M
 check-table-spec =
@@ -73,6 +118,7 @@ check-table-spec =
     (tie.spec
     is-valid-requires
     returns
+    shape-requires
     long-enough-requires
     returns-2
     cast-q

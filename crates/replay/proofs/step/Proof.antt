@@ -1,9 +1,8 @@
 -- `replay::step` meets its contract: no step over the empty stack or where none goes, and else the rule replaces the top. Assumes nothing.
 use mathlib.Core.Bool.{true, false}
 use Prim.Native.Nat.{_-_}
-use denote.Ref.{now}
 use Rattle.product.specs.Product.{loaded}
-use Rattle.replay.proofs.Stepping.{empty, state-in, top-room, stepped, stuck}
+use Rattle.replay.proofs.Stepping.{empty, top-room, stepped, stuck}
 use native.Mathlib.Omega.{arith}
 use borrow.Author.Needs.{needs}
 use Rattle.replay.proofs.step.Statement.{statement}
@@ -13,7 +12,7 @@ returns : tie.Need-returns
 returns c =
     let s = c .before .before in
     let a = s .args in
-    empty (s .pre) (now (a .finals)) (loaded (a .n)) (a .number) (a .at .state) (c .if1 .taken)
+    empty (s .pre) (loaded (a .n)) (a .number) (a .at .state) (c .if1 .taken)
 
 sub-top : tie.Need-sub-top
 sub-top c = search needs
@@ -46,13 +45,10 @@ replace-requires : tie.Need-replace-requires
 replace-requires c κs =
     let s = c .before .before .before .before .before .before .before .before .before in
     let a = s .args in
-    top-room (s .pre) (now (a .finals)) (loaded (a .n)) (a .number) (a .at .state) (search needs) (c .before .before .before .before .before .goes .ensures) (c .before .before .before .next .given .1) (c .before .rule-at .ensures)
+    top-room (s .pre) (loaded (a .n)) (a .number) (a .at .state) (search needs) (c .before .before .before .before .before .goes .ensures) (c .before .before .before .next .given .1) (c .before .rule-at .ensures)
 
-element-copy-out-if2 : tie.Need-element-copy-out-if2
-element-copy-out-if2 c =
-    let s = c .before .before .before .before .before .before .before .before .before .before .before .before in
-    let a = s .args in
-    omega (arith, state-in (s .pre) (now (a .finals)) (loaded (a .n)) (a .number) (a .at .state) (search needs) (c .before .before .before .before .before .before .before .before .goes .ensures) (c .before .before .before .before .before .before .next .given .1))
+is-final-requires : tie.Need-is-final-requires
+is-final-requires c κs = search needs
 
 same-length : tie.Need-same-length
 same-length c = search needs
@@ -61,13 +57,13 @@ returns-2 : tie.Need-returns-2
 returns-2 c =
     let s = c .before .before .before .before .before .before .before .before .before .before .before .before .before .before in
     let a = s .args in
-    stepped (s .pre) (now (a .finals)) (loaded (a .n)) (a .number) (a .at .state) (search needs) (c .before .before .before .before .before .before .before .before .before .before .goes .ensures) (c .before .before .before .before .before .before .before .before .next .given .1) (c .before .before .before .before .before .before .rule-at .ensures) (c .before .before .before .before .replace .ensures) true (c .if2 .taken)
+    stepped (s .pre) (loaded (a .n)) (a .number) (a .at .state) (search needs) (c .before .before .before .before .before .before .before .before .before .before .goes .ensures) (c .before .before .before .before .before .before .before .before .next .given .1) (c .before .before .before .before .before .before .rule-at .ensures) (c .before .before .before .before .replace .ensures) (c .before .is-final .ensures) true (c .if2 .taken)
 
 returns-3 : tie.Need-returns-3
 returns-3 c =
     let s = c .before .before .before .before .before .before in
     let a = s .args in
-    stuck (s .pre) (now (a .finals)) (loaded (a .n)) (a .number) (a .at .state) (search needs) (c .before .before .goes .ensures) (c .enum-told .given .1)
+    stuck (s .pre) (loaded (a .n)) (a .number) (a .at .state) (search needs) (c .before .before .goes .ensures) (c .enum-told .given .1)
 
 same-length-2 : tie.Need-same-length-2
 same-length-2 c = search needs
@@ -76,7 +72,7 @@ returns-4 : tie.Need-returns-4
 returns-4 c =
     let s = c .before .before .before .before .before .before .before .before .before .before .before .before .before .before in
     let a = s .args in
-    stepped (s .pre) (now (a .finals)) (loaded (a .n)) (a .number) (a .at .state) (search needs) (c .before .before .before .before .before .before .before .before .before .before .goes .ensures) (c .before .before .before .before .before .before .before .before .next .given .1) (c .before .before .before .before .before .before .rule-at .ensures) (c .before .before .before .before .replace .ensures) false (c .if2 .left)
+    stepped (s .pre) (loaded (a .n)) (a .number) (a .at .state) (search needs) (c .before .before .before .before .before .before .before .before .before .before .goes .ensures) (c .before .before .before .before .before .before .before .before .next .given .1) (c .before .before .before .before .before .before .rule-at .ensures) (c .before .before .before .before .replace .ensures) (c .before .is-final .ensures) false (c .if2 .left)
 
 pub step-spec : {M : Type 1} → statement M
 step-spec =
@@ -92,7 +88,7 @@ step-spec =
     cast-rule-at
     rule-at-requires
     replace-requires
-    element-copy-out-if2
+    is-final-requires
     same-length
     returns-2
     returns-3

@@ -1,5 +1,6 @@
 -- `report::put_model` meets its contract. Assumes nothing.
 use mathlib.Core.Path.{refl}
+use Rattle.lent.specs.Lending.{modelIn}
 use Rattle.text.proofs.Puts.{put-length}
 use Rattle.report.proofs.Answer.{told}
 use borrow.Author.Needs.{needs}
@@ -31,7 +32,7 @@ slice-aggregate-put-told-3 : tie.Need-slice-aggregate-put-told-3
 slice-aggregate-put-told-3 c = search needs
 
 put-told-requires : tie.Need-put-told-requires
-put-told-requires c κs = told (c .before .before .before .before .before .before .before .before .before .before .before .before .before .args .m) (c .before .before .before .before .before .before .before .before .before .before .before .before .before .pre) refl refl refl (c .before .before .before .before .before .before .before .before .before .before .before .budget .ensures) (c .before .before .before .before .before .before .before .trace .ensures)
+put-told-requires c κs = told (modelIn (c .before .before .before .before .before .before .before .before .before .before .before .before .before .args .m .now)) (c .before .before .before .before .before .before .before .before .before .before .before .before .before .pre) refl refl refl (c .before .before .before .before .before .before .before .before .before .before .before .budget .ensures) (c .before .before .before .before .before .before .before .trace .ensures)
 
 same-length : tie.Need-same-length
 same-length c = put-length (c .before .before .put-told .ensures)

@@ -1,5 +1,6 @@
 -- `rereport::put_listing` meets its contract. Assumes nothing.
 use mathlib.Core.Path.{refl}
+use Rattle.lent.specs.Lending.{modelIn}
 use Rattle.text.proofs.Puts.{put-length}
 use Rattle.fitting.proofs.Tested.{ample}
 use Rattle.rereport.proofs.Cases.{heard, heard-put}
@@ -23,13 +24,13 @@ slice-aggregate-put-heard-2 : tie.Need-slice-aggregate-put-heard-2
 slice-aggregate-put-heard-2 c = search needs
 
 put-heard-requires : tie.Need-put-heard-requires
-put-heard-requires c κs = let a = c .before .before .before .before .before .before .before .before .before .before .args in heard (a .m) (a .text .now) (ample (a .m) (c .before .before .before .before .before .before .before .before .before .before .pre) refl refl) (c .before .before .before .before .before .read-listing .ensures) (ample (a .m) (c .before .before .before .before .before .before .before .before .before .before .pre) (search needs) (search needs))
+put-heard-requires c κs = let a = c .before .before .before .before .before .before .before .before .before .before .args in heard (modelIn (a .m .now)) (a .text .now) (ample (modelIn (a .m .now)) (c .before .before .before .before .before .before .before .before .before .before .pre) refl refl) (c .before .before .before .before .before .read-listing .ensures) (ample (modelIn (a .m .now)) (c .before .before .before .before .before .before .before .before .before .before .pre) (search needs) (search needs))
 
 same-length : tie.Need-same-length
 same-length c = put-length (c .before .before .put-heard .ensures)
 
 returns : tie.Need-returns
-returns c = let a = c .before .before .before .before .before .before .before .before .before .before .before .before .before .args in heard-put (a .m) (a .text .now) (ample (a .m) (c .before .before .before .before .before .before .before .before .before .before .before .before .before .pre) refl refl) (c .before .before .before .before .before .before .before .before .read-listing .ensures) (c .before .before .put-heard .ensures)
+returns c = let a = c .before .before .before .before .before .before .before .before .before .before .before .before .before .args in heard-put (modelIn (a .m .now)) (a .text .now) (ample (modelIn (a .m .now)) (c .before .before .before .before .before .before .before .before .before .before .before .before .before .pre) refl refl) (c .before .before .before .before .before .before .before .before .read-listing .ensures) (c .before .before .put-heard .ensures)
 
 pub put-listing-spec : {M : Type 1} → statement M
 put-listing-spec =

@@ -1,13 +1,17 @@
 -- `steps::class_of` meets its contract. Assumes nothing.
+use mathlib.Core.Path.{_∙_}
+use Prim.Native.Nat.{_+_, _*_}
 use native.Mathlib.Omega.{arith}
 use denote.Ref.{now}
 use borrow.Author.Needs.{needs}
+use Rattle.lent.specs.Lending.{modelIn}
+use Rattle.lent.proofs.Parts.{in-part}
 use Rattle.steps.proofs.Built.{class-past, class-row}
 use Rattle.steps.proofs.class_of.Statement.{statement}
 use Rattle.steps.proofs.class_of.Tie as tie
 
 returns : tie.Need-returns
-returns c = (class-past (now (c .before .args .rulerows)) (c .before .args .r) (c .if1 .taken), omega arith)
+returns c = let a = c .before .args in (class-past (modelIn (now (a .m))) (a .r) (c .if1 .taken), omega arith)
 
 mul-index : tie.Need-mul-index
 mul-index c = search needs
@@ -22,7 +26,12 @@ index-requires : tie.Need-index-requires
 index-requires c κs = search needs
 
 returns-2 : tie.Need-returns-2
-returns-2 c = (class-row (now (c .before .before .before .args .rulerows)) (c .before .before .before .args .r) (c .before .before .if1 .left) (c .index .ensures .0), c .index .ensures .1)
+unfolding modelIn
+returns-2 c =
+    let tested = c .before .before in
+    let a = tested .before .args in
+    let is = in-part (now (a .m)) 0 1024 (a .r * 4 + 1) (a .r * 4 + 1) (omega arith) (omega arith) in
+    (class-row (modelIn (now (a .m))) (a .r) (tested .if1 .left) (c .index .ensures .0 ∙ is), c .index .ensures .1)
 
 pub class-of-spec : {M : Type 1} → statement M
 class-of-spec =

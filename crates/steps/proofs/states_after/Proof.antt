@@ -1,6 +1,7 @@
 -- `steps::states_after` meets its contract. Assumes nothing.
 use denote.Ref.{now}
 use borrow.Author.Needs.{needs}
+use Rattle.lent.specs.Lending.{modelIn}
 use Rattle.steps.proofs.Built.{is-after}
 use Rattle.steps.proofs.states_after.Statement.{statement}
 use Rattle.steps.proofs.states_after.Tie as tie
@@ -18,7 +19,7 @@ through-requires : tie.Need-through-requires
 through-requires c κs = search needs
 
 returns : tie.Need-returns
-returns c = is-after (now (c .before .before .before .args .rulerows)) (now (c .before .before .before .args .tg)) (c .before .before .before .args .r) (c .before .before .before .args .from) (c .before .before .class-of .ensures .0) (c .through .ensures)
+returns c = is-after (modelIn (now (c .before .before .before .args .m))) (now (c .before .before .before .args .tg)) (c .before .before .before .args .r) (c .before .before .before .args .from) (c .before .before .class-of .ensures .0) (c .through .ensures)
 
 pub states-after-spec : {M : Type 1} → statement M
 states-after-spec =

@@ -1,6 +1,7 @@
 -- `steps::symbol_steps` meets its contract. Assumes nothing.
 use denote.Ref.{now}
 use borrow.Author.Needs.{needs}
+use Rattle.lent.specs.Lending.{modelIn}
 use Rattle.steps.proofs.Marks.{joined-shown}
 use Rattle.steps.proofs.symbol_steps.Statement.{statement}
 use Rattle.steps.proofs.symbol_steps.Tie as tie
@@ -29,7 +30,7 @@ join-requires-2 c κs = search needs
 returns : tie.Need-returns
 returns c =
     let a = c .before .before .before .before .before .args in
-    joined-shown (now (a .on)) (now (a .shows)) (a .g) _ _ (c .before .before .before .before .eight .ensures) (c .before .eight2 .ensures) (c .before .before .join .ensures) (c .join2 .ensures)
+    joined-shown (now (a .on)) (modelIn (now (a .m)) .shows) (a .g) _ _ (c .before .before .before .before .eight .ensures) (c .before .eight2 .ensures) (c .before .before .join .ensures) (c .join2 .ensures)
 
 pub symbol-steps-spec : {M : Type 1} → statement M
 symbol-steps-spec =

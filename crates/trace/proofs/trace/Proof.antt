@@ -1,20 +1,31 @@
 -- `trace::trace` meets its contract: after a violation the arrays are the table of ranks that `write_trace` asks for. Assumes nothing.
-use borrow.Author.Needs.{needs}
 use mathlib.Core.Path.{refl}
+use denote.Ref.{now}
+use borrow.Author.Needs.{needs}
+use Rattle.lent.specs.Lending.{modelIn}
+use Rattle.trace.proofs.Write.{ranked-by, written-by}
 use Rattle.trace.proofs.Outcome.{ranked, outcome-traced, outcome-other}
 use Rattle.trace.proofs.trace.Statement.{statement}
 use Rattle.trace.proofs.trace.Tie as tie
 
 decide-requires : tie.Need-decide-requires
-decide-requires c κs = tt
+decide-requires c κs = search needs
 
 enum-known-d : tie.Need-enum-known-d
 enum-known-d c = c .match .keys1
 
+shape-requires : tie.Need-shape-requires
+shape-requires c κs = search needs
+
 write-trace-requires : tie.Need-write-trace-requires
 write-trace-requires c κs =
-    let a = c .before .before .before .before .before .before .before .before .before .before .before .before .before .before .before .before .args in
-    ranked (a .m) (a .budget) (a .heads .now) (a .triples .now) _ _ (c .before .before .before .before .before .before .before .before .before .before .decide .ensures) _ (c .before .before .before .before .d .given .1)
+    let read = c .before .before .before in
+    let ran = read .before .before .before .before .before .before .before .before in
+    let a = ran .before .before .before .before .before .before .args in (
+      read .shape .ensures,
+      ranked-by (now (a .m)) (read .shape .ensures)
+          (ranked (modelIn (now (a .m))) (a .budget) (now (a .heads)) (now (a .triples)) _ _ (ran .decide .ensures) _ (read .before .before .d .given .1)),
+    )
 
 enum-known-d-2 : tie.Need-enum-known-d-2
 enum-known-d-2 c = c .match .keys2
@@ -39,8 +50,12 @@ same-length-3 c = search needs
 
 returns : tie.Need-returns
 returns c =
-    let a = c .before .before .before .before .before .before .before .before .before .before .before .before .before .before .before .before .before .before .before .args in
-    outcome-traced (a .m) (a .budget) (a .heads .now) (a .triples .now) _ _ (c .before .before .before .before .before .before .before .before .before .before .before .before .before .decide .ensures) _ (c .before .before .before .before .before .before .before .d .given .1) (c .before .before .write-trace .ensures)
+    let wrote = c .before .before in
+    let read = wrote .before .before .before .before in
+    let ran = read .before .before .before .before .before .before .before .before in
+    let a = ran .before .before .before .before .before .before .args in
+    outcome-traced (modelIn (now (a .m))) (a .budget) (now (a .heads)) (now (a .triples)) _ _ (ran .decide .ensures) _ (read .before .before .d .given .1)
+    (written-by (now (a .m)) (read .shape .ensures) (wrote .write-trace .ensures))
 
 same-length-4 : tie.Need-same-length-4
 same-length-4 c = search needs
@@ -50,8 +65,9 @@ same-length-5 c = search needs
 
 returns-2 : tie.Need-returns-2
 returns-2 c =
-    let a = c .before .before .before .before .before .before .before .before .before .before .before .before .before .args in
-    outcome-other (a .m) (a .budget) (a .heads .now) (a .triples .now) _ _ (a .room .now) (c .before .before .before .before .before .before .before .decide .ensures) _ (c .before .d2 .given .1) _ refl refl
+    let ran = c .before .before .before .before .before .before .before in
+    let a = ran .before .before .before .before .before .before .args in
+    outcome-other (modelIn (now (a .m))) (a .budget) (now (a .heads)) (now (a .triples)) _ _ (now (a .room)) (ran .decide .ensures) _ (c .before .d2 .given .1) _ refl refl
 
 same-length-6 : tie.Need-same-length-6
 same-length-6 c = search needs
@@ -61,8 +77,9 @@ same-length-7 c = search needs
 
 returns-3 : tie.Need-returns-3
 returns-3 c =
-    let a = c .before .before .before .before .before .before .before .before .before .before .before .before .args in
-    outcome-other (a .m) (a .budget) (a .heads .now) (a .triples .now) _ _ (a .room .now) (c .before .before .before .before .before .before .decide .ensures) _ (c .enum-told .given .1) _ refl refl
+    let ran = c .before .before .before .before .before .before in
+    let a = ran .before .before .before .before .before .before .args in
+    outcome-other (modelIn (now (a .m))) (a .budget) (now (a .heads)) (now (a .triples)) _ _ (now (a .room)) (ran .decide .ensures) _ (c .enum-told .given .1) _ refl refl
 
 same-length-8 : tie.Need-same-length-8
 same-length-8 c = search needs
@@ -72,8 +89,9 @@ same-length-9 c = search needs
 
 returns-4 : tie.Need-returns-4
 returns-4 c =
-    let a = c .before .before .before .before .before .before .before .before .before .before .before .before .args in
-    outcome-other (a .m) (a .budget) (a .heads .now) (a .triples .now) _ _ (a .room .now) (c .before .before .before .before .before .before .decide .ensures) _ (c .enum-told2 .given .1) _ refl refl
+    let ran = c .before .before .before .before .before .before in
+    let a = ran .before .before .before .before .before .before .args in
+    outcome-other (modelIn (now (a .m))) (a .budget) (now (a .heads)) (now (a .triples)) _ _ (now (a .room)) (ran .decide .ensures) _ (c .enum-told2 .given .1) _ refl refl
 
 same-length-10 : tie.Need-same-length-10
 same-length-10 c = search needs
@@ -83,8 +101,9 @@ same-length-11 c = search needs
 
 returns-5 : tie.Need-returns-5
 returns-5 c =
-    let a = c .before .before .before .before .before .before .before .before .before .before .before .before .before .args in
-    outcome-other (a .m) (a .budget) (a .heads .now) (a .triples .now) _ _ (a .room .now) (c .before .before .before .before .before .before .before .decide .ensures) _ (c .before .d3 .given .1) _ refl refl
+    let ran = c .before .before .before .before .before .before .before in
+    let a = ran .before .before .before .before .before .before .args in
+    outcome-other (modelIn (now (a .m))) (a .budget) (now (a .heads)) (now (a .triples)) _ _ (now (a .room)) (ran .decide .ensures) _ (c .before .d3 .given .1) _ refl refl
 
 pub trace-spec : {M : Type 1} → statement M
 trace-spec =
@@ -92,6 +111,7 @@ trace-spec =
     (tie.spec
     decide-requires
     enum-known-d
+    shape-requires
     write-trace-requires
     enum-known-d-2
     enum-told

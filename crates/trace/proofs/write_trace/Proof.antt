@@ -1,8 +1,11 @@
 -- `trace::write_trace` meets its contract. Assumes nothing.
 use native.Mathlib.Omega.{arith}
+use denote.Ref.{now}
 use borrow.Author.Needs.{needs}
+use Rattle.table.specs.Cells.{view}
 use Rattle.model.proofs.Valid.{valid-sizes}
-use Rattle.trace.proofs.Write.{written-cut, written-whole}
+use Rattle.lent.specs.Lending.{ofLent, modelIn}
+use Rattle.trace.proofs.Write.{by-shape, written-cut, written-whole}
 use Rattle.trace.proofs.write_trace.Statement.{statement}
 use Rattle.trace.proofs.write_trace.Tie as tie
 
@@ -13,29 +16,45 @@ cast-g : tie.Need-cast-g
 cast-g c = search needs
 
 culprit-requires : tie.Need-culprit-requires
-culprit-requires c κs = tt
+culprit-requires c κs = search needs
 
 unfold-fact-requires : tie.Need-unfold-fact-requires
 unfold-fact-requires c κs =
-    let a = c .before .before .before .before .before .before .before .before .before .before .before .args in
-    let z = valid-sizes (a .t4) (c .before .before .before .before .before .before .before .before .before .before .before .pre .valid-model) in
+    let s = c .before .before .before .before .before .before .before in
+    let z = valid-sizes _ (s .pre .1 .valid-model) in
     record { rules-in = z .rules; moves-in = z .moves; place-in = omega arith }
 
 same-length : tie.Need-same-length
 same-length c = search needs
 
 returns : tie.Need-returns
+unfolding modelIn
 returns c =
-    let a = c .before .before .before .before .before .before .before .before .before .before .before .before .before .before .before .args in
-    written-cut (a .t4) (a .n) (a .heads .now) (a .triples .now) (c .before .before .before .before .before .before .before .before .before .before .before .before .before .before .before .pre) (c .before .before .before .before .before .before .before .before .before .culprit .ensures) (c .before .before .before .unfold-fact .ensures) (c .before .before .before .unfold-fact .kept .0) (c .if1 .taken)
+    let wrote = c .before .before .before in
+    let found = wrote .before .before in
+    let s = found .before .before .before .before .before .before in
+    let a = s .args in
+    let m = ofLent (a .shape) (now (a .m)) in
+    let hs = now (a .heads) in
+    let ts = now (a .triples) in
+    let u = by-shape (now (a .m)) (s .pre .0) (view (m .symbols) (m .states) hs ts) (m .symbols) (m .states) hs ts (m .rules) (m .moves) (wrote .unfold-fact .ensures) in
+    written-cut m (a .n) hs ts (s .pre .1) (found .culprit .ensures) u (wrote .unfold-fact .kept .0) (c .if1 .taken)
 
 same-length-2 : tie.Need-same-length-2
 same-length-2 c = search needs
 
 returns-2 : tie.Need-returns-2
+unfolding modelIn
 returns-2 c =
-    let a = c .before .before .before .before .before .before .before .before .before .before .before .before .before .before .before .args in
-    written-whole (a .t4) (a .n) (a .heads .now) (a .triples .now) (c .before .before .before .before .before .before .before .before .before .before .before .before .before .before .before .pre) (c .before .before .before .before .before .before .before .before .before .culprit .ensures) (c .before .before .before .unfold-fact .ensures) (c .before .before .before .unfold-fact .kept .0) (c .if1 .left)
+    let wrote = c .before .before .before in
+    let found = wrote .before .before in
+    let s = found .before .before .before .before .before .before in
+    let a = s .args in
+    let m = ofLent (a .shape) (now (a .m)) in
+    let hs = now (a .heads) in
+    let ts = now (a .triples) in
+    let u = by-shape (now (a .m)) (s .pre .0) (view (m .symbols) (m .states) hs ts) (m .symbols) (m .states) hs ts (m .rules) (m .moves) (wrote .unfold-fact .ensures) in
+    written-whole m (a .n) hs ts (s .pre .1) (found .culprit .ensures) u (wrote .unfold-fact .kept .0) (c .if1 .left)
 
 pub write-trace-spec : {M : Type 1} → statement M
 write-trace-spec =

@@ -1,42 +1,35 @@
+-- `decide::build::final_states` meets its contract. Assumes nothing.
 use Prim.Native.Nat.{_≤_, _-_}
 use Rattle.decide.proofs.Building.{FinalsTo, finals-none, finals-more, finals-all}
 use borrow.Author.Needs.{needs}
+use Rattle.lent.specs.Lending.{productIn}
 use native.Mathlib.Omega.{arith}
 use Rattle.decide.proofs.build.final_states.Statement.{statement}
 use Rattle.decide.proofs.build.final_states.Tie as tie
-use Rattle.decide.proofs.build.final_states.Reads as reads
-use Rattle.decide.proofs.build.final_states.Lts as lts
-use Rattle.decide.proofs.build.if_final.Reads as if-final-reads
 
 abbrev Inv-loop : tie.InvT-loop
-Inv-loop finals r₀ q₀ r q = (q ≤ 8) × FinalsTo finals q r
+Inv-loop m r₀ q₀ r q = (q ≤ 8) × FinalsTo (productIn m .final) q r
 
 abbrev μ-loop : tie.MeasureT-loop
-μ-loop finals r₀ q₀ r q = 8 - q
+μ-loop m r₀ q₀ r q = 8 - q
 
--- src/build.rt:104:5
 loop-holds : tie.Need-loop-holds Inv-loop μ-loop
-loop-holds c = (omega arith, finals-none (c .args .finals .now))
+loop-holds c = (omega arith, finals-none (productIn (c .args .m .now) .final))
 
--- src/build.rt:105:17
 if-final-requires : tie.Need-if-final-requires Inv-loop μ-loop
 if-final-requires c κs = search needs
 
--- src/build.rt:106:9
 add-q : tie.Need-add-q Inv-loop μ-loop
 add-q c = search needs
 
--- src/build.rt:104:5
 loop-less : tie.Need-loop-less Inv-loop μ-loop
 loop-less c = search needs
 
--- src/build.rt:104:5
 loop-again : tie.Need-loop-again Inv-loop μ-loop
-loop-again c = (omega arith, finals-more (c .before .before .before .args .finals .now) (c .before .before .loop .q) (c .before .before .loop .r) (c .if-final .result) (c .before .before .loop .inv .1) (c .if-final .ensures))
+loop-again c = (omega arith, finals-more (productIn (c .before .before .before .args .m .now) .final) (c .before .before .loop .q) (c .before .before .loop .r) (c .if-final .result) (c .before .before .loop .inv .1) (c .if-final .ensures))
 
--- src/build.rt:99:1
 returns : tie.Need-returns Inv-loop μ-loop
-returns c = finals-all (c .before .before .args .finals .now) (c .before .loop .q) 8 _ (omega arith) (c .before .loop .inv .1)
+returns c = finals-all (productIn (c .before .before .args .m .now) .final) (c .before .loop .q) 8 _ (omega arith) (c .before .loop .inv .1)
 
 pub final-states-spec : {M : Type 1} → statement M
 final-states-spec =

@@ -1,27 +1,27 @@
-use mathlib.Core.Path.{_≡_, refl}
-use Rattle.decide.proofs.Building.{final-bit}
-use native.Mathlib.Omega.{arith}
+-- `decide::build::if_final` meets its contract. Assumes nothing.
+use denote.Ref.{now}
 use borrow.Author.Needs.{needs}
+use Rattle.lent.specs.Lending.{productIn}
+use Rattle.decide.proofs.Building.{final-bit, not-final}
 use Rattle.decide.proofs.build.if_final.Statement.{statement}
 use Rattle.decide.proofs.build.if_final.Tie as tie
-use Rattle.decide.proofs.build.if_final.Reads as reads
-use Rattle.decide.proofs.build.if_final.Lts as lts
 
--- src/build.rt:92:8
-element-copy-out-if1 : tie.Need-element-copy-out-if1
-element-copy-out-if1 c = search needs
+is-final-requires : tie.Need-is-final-requires
+is-final-requires c κs = search needs
 
--- src/build.rt:93:16
 shl-result : tie.Need-shl-result
 shl-result c = search needs
 
--- src/build.rt:93:9
 returns : tie.Need-returns
-returns c = final-bit (c .before .before .args .finals .now) _ (c .before .before .pre) (c .if1 .taken)
+returns c =
+    let asked = c .before in
+    let s = asked .before in
+    final-bit (productIn (now (s .args .m)) .final) _ (s .pre) (asked .is-final .ensures) (c .if1 .taken)
 
--- src/build.rt:88:1
 returns-2 : tie.Need-returns-2
-returns-2 c = rw (c .if1 .left)
+returns-2 c =
+    let asked = c .before in
+    not-final (productIn (now (asked .before .args .m)) .final) _ (asked .is-final .ensures) (c .if1 .left)
 
 pub if-final-spec : {M : Type 1} → statement M
-if-final-spec = tie.close (tie.spec element-copy-out-if1 shl-result returns returns-2)
+if-final-spec = tie.close (tie.spec is-final-requires shl-result returns returns-2)

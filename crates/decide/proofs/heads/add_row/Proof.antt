@@ -1,32 +1,24 @@
+-- `decide::heads::add_row` meets its contract. Assumes nothing.
 use Rattle.decide.proofs.Showing.{shows-one}
-use native.Mathlib.Omega.{arith}
 use borrow.Author.Needs.{needs}
 use Rattle.decide.proofs.heads.add_row.Statement.{statement}
 use Rattle.decide.proofs.heads.add_row.Tie as tie
-use Rattle.decide.proofs.heads.add_row.Reads as reads
-use Rattle.decide.proofs.heads.add_row.Lts as lts
 
--- src/heads.rt:33:13
 mul-nh : tie.Need-mul-nh
 mul-nh c = search needs
 
--- src/heads.rt:33:13
 element-copy-out-nh : tie.Need-element-copy-out-nh
 element-copy-out-nh c = search needs
 
--- src/heads.rt:33:5
 mul-nh-2 : tie.Need-mul-nh-2
 mul-nh-2 c = search needs
 
--- src/heads.rt:33:5
 element-write-nh : tie.Need-element-write-nh
 element-write-nh c = search needs
 
--- src/heads.rt:34:5
 shl-result : tie.Need-shl-result
 shl-result c = search needs
 
--- src/heads.rt:28:1
 returns : tie.Need-returns
 returns c = shows-one _ _ _ (c .before .pre .0) (c .before .pre .1)
 

@@ -1,3 +1,4 @@
+-- `decide::heads::settle_heads` meets its contract. Assumes nothing.
 use lib.Count.{trailing-le}
 use Rattle.bits.proofs.Lowest.{cleared-less}
 use Rattle.decide.proofs.Showing.{RowsLeft, rows-first, rows-next, rows-last, rows-room, row-low, row-fits}
@@ -5,9 +6,6 @@ use borrow.Author.Needs.{needs}
 use native.Mathlib.Omega.{arith}
 use Rattle.decide.proofs.heads.settle_heads.Statement.{statement}
 use Rattle.decide.proofs.heads.settle_heads.Tie as tie
-use Rattle.decide.proofs.heads.settle_heads.Reads as reads
-use Rattle.decide.proofs.heads.settle_heads.Lts as lts
-use Rattle.decide.proofs.heads.take_heads.Reads as take-heads-reads
 
 abbrev Inv-loop : tie.InvT-loop
 Inv-loop size touched k nh₀ hd₀ heads₀ d₀ changed₀ nh hd heads d changed = RowsLeft size k nh₀ hd₀ heads₀ d changed nh hd heads
@@ -15,51 +13,41 @@ Inv-loop size touched k nh₀ hd₀ heads₀ d₀ changed₀ nh hd heads d chang
 abbrev μ-loop : tie.MeasureT-loop
 μ-loop size touched k nh₀ hd₀ heads₀ d₀ changed₀ nh hd heads d changed = d
 
--- src/heads.rt:134:5
 loop-holds : tie.Need-loop-holds Inv-loop μ-loop
 loop-holds c = rows-first (search needs) (c .before .pre .0)
 
--- src/heads.rt:135:17
 cast-g : tie.Need-cast-g Inv-loop μ-loop
 cast-g c = omega (arith, trailing-le 64 (c .before .loop .d))
 
--- src/heads.rt:136:18
 sub-d : tie.Need-sub-d Inv-loop μ-loop
 sub-d c = search needs
 
--- src/heads.rt:137:49
 mul-take-heads : tie.Need-mul-take-heads Inv-loop μ-loop
 mul-take-heads c = let h = row-low (omega arith) (c .before .loop .inv) in search needs
 
--- src/heads.rt:137:49
 element-copy-out-take-heads : tie.Need-element-copy-out-take-heads Inv-loop μ-loop
 element-copy-out-take-heads c = row-low (omega arith) (c .before .loop .inv)
 
--- src/heads.rt:137:29
 take-heads-requires : tie.Need-take-heads-requires Inv-loop μ-loop
-take-heads-requires c κs = let l = c .before .before .before .before .loop .inv in (rows-room (omega arith) l (c .before .before .before .before .before .before .pre .1 .0), row-fits (omega arith) l (c .before .before .before .before .before .before .pre .1 .1))
+take-heads-requires c κs =
+    let l = c .before .before .before .before .loop .inv in
+    (rows-room (omega arith) l (c .before .before .before .before .before .before .pre .1 .0), row-fits (omega arith) l (c .before .before .before .before .before .before .pre .1 .1))
 
--- src/heads.rt:138:9
 mul-nh : tie.Need-mul-nh Inv-loop μ-loop
 mul-nh c = let h = row-low (omega arith) (c .before .before .before .before .before .before .before .loop .inv) in search needs
 
--- src/heads.rt:138:9
 element-write-nh : tie.Need-element-write-nh Inv-loop μ-loop
 element-write-nh c = row-low (omega arith) (c .before .before .before .before .before .before .before .loop .inv)
 
--- src/heads.rt:134:5
 loop-less : tie.Need-loop-less Inv-loop μ-loop
 loop-less c = cleared-less (c .before .before .before .before .before .before .before .loop .d) (omega arith)
 
--- src/heads.rt:134:5
 loop-again : tie.Need-loop-again Inv-loop μ-loop
 loop-again c = rows-next (omega arith) (c .before .before .before .before .before .before .before .loop .inv) (c .before .before .take-heads .ensures)
 
--- src/heads.rt:119:1
 same-length : tie.Need-same-length Inv-loop μ-loop
 same-length c = c .before .loop .inv .took .table .as-long
 
--- src/heads.rt:119:1
 returns : tie.Need-returns Inv-loop μ-loop
 returns c = rows-last (omega arith) (c .before .loop .inv)
 

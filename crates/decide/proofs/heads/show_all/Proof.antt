@@ -1,41 +1,31 @@
+-- `decide::heads::show_all` meets its contract. Assumes nothing.
 use Rattle.decide.specs.Sets.{weight}
 use Rattle.decide.proofs.Showing.{Left, left-first, left-next, left-last}
-use borrow.Author.Needs.{needs}
 use native.Mathlib.Omega.{arith}
 use Rattle.decide.proofs.heads.show_all.Statement.{statement}
 use Rattle.decide.proofs.heads.show_all.Tie as tie
-use Rattle.decide.proofs.heads.show_all.Reads as reads
-use Rattle.decide.proofs.heads.show_all.Lts as lts
-use Rattle.decide.proofs.heads.show.Reads as show-reads
-use Rattle.decide.proofs.sets.pick.Reads as pick-reads
 
 abbrev Inv-loop : tie.InvT-loop
-Inv-loop rules sy tg e hd nh₀ left₀ touched₀ nh left touched = Left rules sy tg e hd left₀ nh₀ left touched nh
+Inv-loop rules tg e hd nh₀ left₀ touched₀ nh left touched = Left rules tg e hd left₀ nh₀ left touched nh
 
 abbrev μ-loop : tie.MeasureT-loop
-μ-loop rules sy tg e hd nh₀ left₀ touched₀ nh left touched = weight left
+μ-loop rules tg e hd nh₀ left₀ touched₀ nh left touched = weight left
 
--- src/heads.rt:84:5
 loop-holds : tie.Need-loop-holds Inv-loop μ-loop
 loop-holds c = left-first (c .pre .0) (c .pre .1)
 
--- src/heads.rt:85:13
 pick-requires : tie.Need-pick-requires Inv-loop μ-loop
 pick-requires c κs = c .before .loop .inv .long
 
--- src/heads.rt:87:13
 returns : tie.Need-returns Inv-loop μ-loop
 returns c = left-last (omega arith) (c .before .pick .ensures) (c .before .before .before .loop .inv)
 
--- src/heads.rt:89:29
 show-requires : tie.Need-show-requires Inv-loop μ-loop
 show-requires c κs = (omega arith, c .before .before .before .before .loop .inv .covers .long)
 
--- src/heads.rt:84:5
 loop-less : tie.Need-loop-less Inv-loop μ-loop
 loop-less c = c .before .before .before .pick .ensures .less (omega arith)
 
--- src/heads.rt:84:5
 loop-again : tie.Need-loop-again Inv-loop μ-loop
 loop-again c = left-next (omega arith) (c .before .before .before .pick .ensures) (c .before .before .before .before .before .loop .inv) (c .show .ensures)
 

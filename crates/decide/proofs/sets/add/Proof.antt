@@ -1,32 +1,24 @@
+-- `decide::sets::add` meets its contract. Assumes nothing.
 use Rattle.decide.proofs.Members.{with-is}
-use native.Mathlib.Omega.{arith}
 use borrow.Author.Needs.{needs}
 use Rattle.decide.proofs.sets.add.Statement.{statement}
 use Rattle.decide.proofs.sets.add.Tie as tie
-use Rattle.decide.proofs.sets.add.Reads as reads
-use Rattle.decide.proofs.sets.add.Lts as lts
 
--- src/sets.rt:17:14
 mul-set : tie.Need-mul-set
 mul-set c = search needs
 
--- src/sets.rt:17:14
 element-copy-out-set : tie.Need-element-copy-out-set
 element-copy-out-set c = search needs
 
--- src/sets.rt:17:24
 shl-set : tie.Need-shl-set
 shl-set c = search needs
 
--- src/sets.rt:17:5
 mul-set-2 : tie.Need-mul-set-2
 mul-set-2 c = search needs
 
--- src/sets.rt:17:5
 element-write-set : tie.Need-element-write-set
 element-write-set c = search needs
 
--- src/sets.rt:11:1
 returns : tie.Need-returns
 returns c = with-is _ _ (c .before .pre .0) (c .before .pre .1)
 

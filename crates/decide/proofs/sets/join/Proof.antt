@@ -1,97 +1,72 @@
-use Rattle.decide.proofs.Members.{joined-is}
-use native.Mathlib.Omega.{arith}
+-- `decide::sets::join` meets its contract. Assumes nothing.
+use Prim.Native.Nat.{_-_}
+use Rattle.decide.proofs.Members.{JoinedTo, joined-none, joined-more, joined-all}
 use borrow.Author.Needs.{needs}
+use native.Mathlib.Omega.{arith}
 use Rattle.decide.proofs.sets.join.Statement.{statement}
 use Rattle.decide.proofs.sets.join.Tie as tie
-use Rattle.decide.proofs.sets.join.Reads as reads
-use Rattle.decide.proofs.sets.join.Lts as lts
 
--- src/sets.rt:81:14
-mul-at : tie.Need-mul-at
-mul-at c = search needs
+abbrev Inv-loop : tie.InvT-loop
+Inv-loop set₀ sets s k₀ set k = JoinedTo set₀ sets s k set
 
--- src/sets.rt:83:9
-array-read-t8 : tie.Need-array-read-t8
-array-read-t8 c = search needs
+abbrev μ-loop : tie.MeasureT-loop
+μ-loop set₀ sets s k₀ set k = 4 - k
 
--- src/sets.rt:83:18
-mul-t9 : tie.Need-mul-t9
-mul-t9 c = search needs
+loop-holds : tie.Need-loop-holds Inv-loop μ-loop
+loop-holds c = joined-none (c .pre .0)
 
--- src/sets.rt:83:18
-element-copy-out-t12 : tie.Need-element-copy-out-t12
-element-copy-out-t12 c = search needs
+mul-set : tie.Need-mul-set Inv-loop μ-loop
+mul-set c = search needs
 
--- src/sets.rt:84:9
-array-read-t16 : tie.Need-array-read-t16
-array-read-t16 c = search needs
+element-copy-out-set : tie.Need-element-copy-out-set Inv-loop μ-loop
+element-copy-out-set c = search needs
 
--- src/sets.rt:84:23
-add-t17 : tie.Need-add-t17
-add-t17 c = search needs
+mul-set-2 : tie.Need-mul-set-2 Inv-loop μ-loop
+mul-set-2 c = search needs
 
--- src/sets.rt:84:18
-mul-t18 : tie.Need-mul-t18
-mul-t18 c = search needs
+add-set : tie.Need-add-set Inv-loop μ-loop
+add-set c = search needs
 
--- src/sets.rt:84:18
-element-copy-out-t21 : tie.Need-element-copy-out-t21
-element-copy-out-t21 c = search needs
+mul-set-3 : tie.Need-mul-set-3 Inv-loop μ-loop
+mul-set-3 c = search needs
 
--- src/sets.rt:85:9
-array-read-t25 : tie.Need-array-read-t25
-array-read-t25 c = search needs
+element-copy-out-set-2 : tie.Need-element-copy-out-set-2 Inv-loop μ-loop
+element-copy-out-set-2 c = search needs
 
--- src/sets.rt:85:23
-add-t26 : tie.Need-add-t26
-add-t26 c = search needs
+mul-set-4 : tie.Need-mul-set-4 Inv-loop μ-loop
+mul-set-4 c = search needs
 
--- src/sets.rt:85:18
-mul-t27 : tie.Need-mul-t27
-mul-t27 c = search needs
+element-write-set : tie.Need-element-write-set Inv-loop μ-loop
+element-write-set c = search needs
 
--- src/sets.rt:85:18
-element-copy-out-t30 : tie.Need-element-copy-out-t30
-element-copy-out-t30 c = search needs
+add-k : tie.Need-add-k Inv-loop μ-loop
+add-k c = search needs
 
--- src/sets.rt:86:9
-array-read-t34 : tie.Need-array-read-t34
-array-read-t34 c = search needs
+loop-less : tie.Need-loop-less Inv-loop μ-loop
+loop-less c = search needs
 
--- src/sets.rt:86:23
-add-t35 : tie.Need-add-t35
-add-t35 c = search needs
+loop-again : tie.Need-loop-again Inv-loop μ-loop
+loop-again c = let at = c .before .before .before in joined-more (omega arith) (at .loop .inv)
 
--- src/sets.rt:86:18
-mul-t36 : tie.Need-mul-t36
-mul-t36 c = search needs
-
--- src/sets.rt:86:18
-element-copy-out-t39 : tie.Need-element-copy-out-t39
-element-copy-out-t39 c = search needs
-
--- src/sets.rt:76:1
-returns : tie.Need-returns
-returns c = joined-is _ _ _
+returns : tie.Need-returns Inv-loop μ-loop
+returns c = joined-all (omega arith) (c .before .loop .inv)
 
 pub join-spec : {M : Type 1} → statement M
 join-spec =
     tie.close
     (tie.spec
-    mul-at
-    array-read-t8
-    mul-t9
-    element-copy-out-t12
-    array-read-t16
-    add-t17
-    mul-t18
-    element-copy-out-t21
-    array-read-t25
-    add-t26
-    mul-t27
-    element-copy-out-t30
-    array-read-t34
-    add-t35
-    mul-t36
-    element-copy-out-t39
+    Inv-loop
+    μ-loop
+    loop-holds
+    mul-set
+    element-copy-out-set
+    mul-set-2
+    add-set
+    mul-set-3
+    element-copy-out-set-2
+    mul-set-4
+    element-write-set
+    add-k
+    loop-less
+    loop-again
     returns)

@@ -1,40 +1,30 @@
+-- `decide::sets::put` meets its contract. Assumes nothing.
 use Rattle.decide.proofs.Members.{put-is}
-use native.Mathlib.Omega.{arith}
 use borrow.Author.Needs.{needs}
 use Rattle.decide.proofs.sets.put.Statement.{statement}
 use Rattle.decide.proofs.sets.put.Tie as tie
-use Rattle.decide.proofs.sets.put.Reads as reads
-use Rattle.decide.proofs.sets.put.Lts as lts
 
--- src/sets.rt:97:14
 mul-at : tie.Need-mul-at
 mul-at c = search needs
 
--- src/sets.rt:97:14
 add-at : tie.Need-add-at
 add-at c = search needs
 
--- src/sets.rt:98:16
 mul-sets : tie.Need-mul-sets
 mul-sets c = search needs
 
--- src/sets.rt:98:16
 element-copy-out-sets : tie.Need-element-copy-out-sets
 element-copy-out-sets c = search needs
 
--- src/sets.rt:98:28
 shl-sets : tie.Need-shl-sets
 shl-sets c = search needs
 
--- src/sets.rt:98:5
 mul-sets-2 : tie.Need-mul-sets-2
 mul-sets-2 c = search needs
 
--- src/sets.rt:98:5
 element-write-sets : tie.Need-element-write-sets
 element-write-sets c = search needs
 
--- src/sets.rt:91:1
 returns : tie.Need-returns
 returns c = put-is _ _ _ (c .before .pre .1 .1) (c .before .pre .0) (c .before .pre .1 .0)
 

@@ -1,13 +1,13 @@
 -- `decide::stamps::stamp` meets its contract. Assumes nothing.
 use mathlib.Core.Path.{_≡_, refl}
-use Prim.Native.Nat.{_+_, _*_, _/_, _%_, _<_}
+use Prim.Native.Nat.{_*_}
 use native.Mathlib.Omega.{arith}
 use lib.Count.{trailing-le}
 use lib.ListN.{length}
 use borrow.Author.Needs.{needs}
 use Rattle.table.specs.declared.Size.{Size}
 use Rattle.table.proofs.Bytes.{cell-small}
-use Rattle.bits.proofs.Lowest.{lowest, cleared-less}
+use Rattle.bits.proofs.Lowest.{cleared-less}
 use Rattle.decide.specs.Stamp.{of-triples, Stamps}
 use Rattle.decide.proofs.Stamped.{Left, left-first, cell-in, triples-next, triples-last}
 use Rattle.decide.proofs.stamps.stamp.Statement.{statement}

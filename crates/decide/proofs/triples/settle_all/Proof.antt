@@ -1,45 +1,34 @@
+-- `decide::triples::settle_all` meets its contract. Assumes nothing.
 use Rattle.decide.specs.Sets.{weight}
 use Rattle.decide.proofs.Settling.{Left, left-first, left-next, left-last, left-room}
-use borrow.Author.Needs.{needs}
 use native.Mathlib.Omega.{arith}
 use Rattle.decide.proofs.triples.settle_all.Statement.{statement}
 use Rattle.decide.proofs.triples.settle_all.Tie as tie
-use Rattle.decide.proofs.triples.settle_all.Reads as reads
-use Rattle.decide.proofs.triples.settle_all.Lts as lts
-use Rattle.decide.proofs.sets.pick.Reads as pick-reads
-use Rattle.decide.proofs.triples.settle.Reads as settle-reads
 
 abbrev Inv-loop : tie.InvT-loop
-Inv-loop size k sy tg by e₀ triples₀ left₀ changed₀ e triples left changed = Left size k left₀ sy tg by e₀ triples₀ left changed e triples
+Inv-loop size k tg by e₀ triples₀ left₀ changed₀ e triples left changed = Left size k left₀ tg by e₀ triples₀ left changed e triples
 
 abbrev μ-loop : tie.MeasureT-loop
-μ-loop size k sy tg by e₀ triples₀ left₀ changed₀ e triples left changed = weight left
+μ-loop size k tg by e₀ triples₀ left₀ changed₀ e triples left changed = weight left
 
--- src/triples.rt:153:5
 loop-holds : tie.Need-loop-holds Inv-loop μ-loop
 loop-holds c = left-first (c .before .pre .0)
 
--- src/triples.rt:154:13
 pick-requires : tie.Need-pick-requires Inv-loop μ-loop
 pick-requires c κs = c .before .loop .inv .long
 
--- src/triples.rt:156:13
 same-length : tie.Need-same-length Inv-loop μ-loop
 same-length c = c .before .before .before .loop .inv .took .table .as-long
 
--- src/triples.rt:156:13
 returns : tie.Need-returns Inv-loop μ-loop
 returns c = left-last (omega arith) (c .before .pick .ensures) (c .before .before .before .loop .inv)
 
--- src/triples.rt:158:29
 settle-requires : tie.Need-settle-requires Inv-loop μ-loop
 settle-requires c κs = (omega arith, (left-room (c .before .before .before .before .before .loop .inv) (c .before .before .before .before .before .before .before .pre .1 .0), c .before .before .before .before .before .before .before .pre .1 .1 _))
 
--- src/triples.rt:153:5
 loop-less : tie.Need-loop-less Inv-loop μ-loop
 loop-less c = c .before .before .before .before .before .before .pick .ensures .less (omega arith)
 
--- src/triples.rt:153:5
 loop-again : tie.Need-loop-again Inv-loop μ-loop
 loop-again c = left-next (omega arith) (c .before .before .before .before .before .before .pick .ensures) (c .before .before .before .before .before .before .before .before .loop .inv) (c .before .before .settle .ensures)
 

@@ -1,5 +1,6 @@
 -- `explain::why::tried` meets its contract. Assumes nothing.
 use Prim.Native.Nat.{suc}
+use Rattle.lent.specs.Lending.{productIn}
 use Rattle.explain.specs.Search.{below}
 use Rattle.explain.proofs.Tried.{tried-stuck, tried-to}
 use Rattle.explain.proofs.why.tried.Statement.{statement}
@@ -10,8 +11,6 @@ use Rattle.explain.proofs.ways.first.Reads as first-reads
 use Rattle.explain.proofs.ways.second.Reads as second-reads
 use Rattle.explain.proofs.why.first_lower.Reads as first-lower-reads
 use Rattle.explain.proofs.why.source.Reads as source-reads
-use Rattle.model.proofs.next_state.Reads as next-state-reads
-use Rattle.model.proofs.rule_at.Reads as rule-at-reads
 
 source-requires : tie.Need-source-requires
 source-requires c κs = tt
@@ -40,12 +39,12 @@ first-lower-requires c κs = tt
 returns : tie.Need-returns
 returns c =
     let a = c .before .before .before .before .before .before .args in
-    tried-stuck (a .rules .now) (a .moves .now) (a .shows .now) (below (a .size .symbols) (a .size .states) (a .heads .now) (a .triples .now) (suc (a .k))) (a .f) (a .r) (a .v) (a .x) (c .before .before .before .source .ensures) (c .before .before .next-state .ensures) (c .enum-told .given .1)
+    tried-stuck (productIn (a .m .now)) (below (a .size .symbols) (a .size .states) (a .heads .now) (a .triples .now) (suc (a .k))) (a .f) (a .r) (a .v) (a .x) (c .before .before .before .source .ensures) (c .before .before .next-state .ensures .0) (c .enum-told .given .1)
 
 returns-2 : tie.Need-returns-2
 returns-2 c =
     let a = c .before .before .before .before .before .before .before .before .before .before .before .args in
-    tried-to (a .rules .now) (a .moves .now) (a .shows .now) (below (a .size .symbols) (a .size .states) (a .heads .now) (a .triples .now) (suc (a .k))) (a .f) (a .r) (a .v) (a .x) (c .before .before .before .before .before .before .before .before .source .ensures) (c .before .before .before .before .before .before .before .next-state .ensures) (c .before .before .before .before .before .next .given .1) (c .before .before .before .rule-at .ensures) (c .before .before .first .ensures) (c .before .second .ensures) (c .first-lower .ensures)
+    tried-to (productIn (a .m .now)) (below (a .size .symbols) (a .size .states) (a .heads .now) (a .triples .now) (suc (a .k))) (a .f) (a .r) (a .v) (a .x) (c .before .before .before .before .before .before .before .before .source .ensures) (c .before .before .before .before .before .before .before .next-state .ensures .0) (c .before .before .before .before .before .next .given .1) (c .before .before .before .rule-at .ensures) (c .before .before .first .ensures) (c .before .second .ensures) (c .first-lower .ensures)
 
 pub tried-spec : {M : Type 1} → statement M
 tried-spec =

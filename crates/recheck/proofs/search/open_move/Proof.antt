@@ -9,15 +9,16 @@ use Rattle.culprit.proofs.First.{find-more, find-here}
 use Rattle.kept.specs.Kept.{inTable}
 use Rattle.recheck.specs.Tests.{step, isClosed, isOpen, foundAs}
 use Rattle.recheck.proofs.Finding.{hit, miss, nowhere}
+use Rattle.lent.specs.Lending.{productIn}
 use borrow.Author.Needs.{needs}
 use Rattle.recheck.proofs.search.open_move.Statement.{statement}
 use Rattle.recheck.proofs.search.open_move.Tie as tie
 
 abbrev Inv-loop : tie.InvT-loop
-Inv-loop rulerows moverows shows heads triples size moves r v₀ v = (v ≤ moves) × (find (isOpen rulerows moverows shows (size .states) (inTable size heads triples)) (each (upTo v) (step r)) ≡ none)
+Inv-loop m heads triples size moves r v₀ v = (v ≤ moves) × (find (isOpen (productIn m) (size .states) (inTable size heads triples)) (each (upTo v) (step r)) ≡ none)
 
 abbrev μ-loop : tie.MeasureT-loop
-μ-loop rulerows moverows shows heads triples size moves r v₀ v = moves - v
+μ-loop m heads triples size moves r v₀ v = moves - v
 
 loop-holds : tie.Need-loop-holds Inv-loop μ-loop
 loop-holds c = (search needs, refl)
@@ -29,7 +30,7 @@ returns : tie.Need-returns Inv-loop μ-loop
 returns c =
     let a = c .before .before .before .before .before .before .args in
     let v = c .before .before .before .loop .v in
-    sym (ap foundAs (find-here (isOpen (now (a .rulerows)) (now (a .moverows)) (now (a .shows)) (a .size .states) (inTable (a .size) (now (a .heads)) (now (a .triples)))) (λ v. step (a .r) v ∷ []) (a .moves) v (step (a .r) v) (search needs) (c .before .before .before .loop .inv .1) (hit (isClosed (now (a .rulerows)) (now (a .moverows)) (now (a .shows)) (a .size .states) (inTable (a .size) (now (a .heads)) (now (a .triples)))) (step (a .r) v) (c .before .steps-kept .ensures) (c .if1 .taken))))
+    sym (ap foundAs (find-here (isOpen (productIn (now (a .m))) (a .size .states) (inTable (a .size) (now (a .heads)) (now (a .triples)))) (λ v. step (a .r) v ∷ []) (a .moves) v (step (a .r) v) (search needs) (c .before .before .before .loop .inv .1) (hit (isClosed (productIn (now (a .m))) (a .size .states) (inTable (a .size) (now (a .heads)) (now (a .triples)))) (step (a .r) v) (c .before .steps-kept .ensures) (c .if1 .taken))))
 
 add-v : tie.Need-add-v Inv-loop μ-loop
 add-v c = search needs
@@ -41,12 +42,12 @@ loop-again : tie.Need-loop-again Inv-loop μ-loop
 loop-again c =
     let a = c .before .before .before .before .before .before .args in
     let v = c .before .before .before .loop .v in
-    (search needs, find-more (isOpen (now (a .rulerows)) (now (a .moverows)) (now (a .shows)) (a .size .states) (inTable (a .size) (now (a .heads)) (now (a .triples)))) (λ v. step (a .r) v ∷ []) v (c .before .before .before .loop .inv .1) (miss (isClosed (now (a .rulerows)) (now (a .moverows)) (now (a .shows)) (a .size .states) (inTable (a .size) (now (a .heads)) (now (a .triples)))) (step (a .r) v) (c .before .steps-kept .ensures) (c .if1 .left)))
+    (search needs, find-more (isOpen (productIn (now (a .m))) (a .size .states) (inTable (a .size) (now (a .heads)) (now (a .triples)))) (λ v. step (a .r) v ∷ []) v (c .before .before .before .loop .inv .1) (miss (isClosed (productIn (now (a .m))) (a .size .states) (inTable (a .size) (now (a .heads)) (now (a .triples)))) (step (a .r) v) (c .before .steps-kept .ensures) (c .if1 .left)))
 
 returns-2 : tie.Need-returns-2 Inv-loop μ-loop
 returns-2 c =
     let a = c .before .before .before .before .args in
-    nowhere (isOpen (now (a .rulerows)) (now (a .moverows)) (now (a .shows)) (a .size .states) (inTable (a .size) (now (a .heads)) (now (a .triples)))) (λ v. step (a .r) v ∷ []) (c .before .loop .inv .0) (search needs) (c .before .loop .inv .1)
+    nowhere (isOpen (productIn (now (a .m))) (a .size .states) (inTable (a .size) (now (a .heads)) (now (a .triples)))) (λ v. step (a .r) v ∷ []) (c .before .loop .inv .0) (search needs) (c .before .loop .inv .1)
 
 pub open-move-spec : {M : Type 1} → statement M
 open-move-spec =

@@ -4,16 +4,17 @@ use native.Mathlib.Omega.{arith}
 use denote.Ref.{now}
 use lib.Dec.{T}
 use borrow.Author.Needs.{needs}
+use Rattle.lent.specs.Lending.{modelIn}
 use Rattle.recheck.specs.Tests.{closedBy}
 use Rattle.recheck.proofs.Rules.{opens-here, closed-more, all-closed}
 use Rattle.recheck.proofs.search.open_rule.Statement.{statement}
 use Rattle.recheck.proofs.search.open_rule.Tie as tie
 
 abbrev Inv-loop : tie.InvT-loop
-Inv-loop rulerows tg ts hs rules r₀ r = (r ≤ rules) × ((j : ℕ) → j < r → T (closedBy rulerows tg ts hs j))
+Inv-loop m tg ts hs rules r₀ r = (r ≤ rules) × ((j : ℕ) → j < r → T (closedBy (modelIn m) tg ts hs j))
 
 abbrev μ-loop : tie.MeasureT-loop
-μ-loop rulerows tg ts hs rules r₀ r = rules - r
+μ-loop m tg ts hs rules r₀ r = rules - r
 
 loop-holds : tie.Need-loop-holds Inv-loop μ-loop
 loop-holds c = (omega arith, λ j l. absurd (omega arith))
@@ -37,7 +38,7 @@ returns : tie.Need-returns Inv-loop μ-loop
 returns c =
     let a = c .before .before .before .before .before .before .before .args in
     let l = c .before .before .before .before .before .before .loop in
-    opens-here (now (a .rulerows)) (now (a .tg)) (now (a .ts)) (now (a .hs)) (l .r) (c .before .before .before .before .class-of .ensures .0) (c .before .before .rule-at .ensures) (c .before .rule-closed .ensures) (a .rules) (omega arith) (l .inv .1) (c .if1 .taken)
+    opens-here (modelIn (now (a .m))) (now (a .tg)) (now (a .ts)) (now (a .hs)) (l .r) (c .before .before .before .before .class-of .ensures .0) (c .before .before .rule-at .ensures) (c .before .rule-closed .ensures) (a .rules) (omega arith) (l .inv .1) (c .if1 .taken)
 
 add-r : tie.Need-add-r Inv-loop μ-loop
 add-r c = search needs
@@ -49,13 +50,13 @@ loop-again : tie.Need-loop-again Inv-loop μ-loop
 loop-again c =
     let a = c .before .before .before .before .before .before .before .args in
     let l = c .before .before .before .before .before .before .loop in
-    (omega arith, closed-more (now (a .rulerows)) (now (a .tg)) (now (a .ts)) (now (a .hs)) (l .r) (c .before .before .before .before .class-of .ensures .0) (c .before .before .rule-at .ensures) (c .before .rule-closed .ensures) (l .inv .1) (c .if1 .left))
+    (omega arith, closed-more (modelIn (now (a .m))) (now (a .tg)) (now (a .ts)) (now (a .hs)) (l .r) (c .before .before .before .before .class-of .ensures .0) (c .before .before .rule-at .ensures) (c .before .rule-closed .ensures) (l .inv .1) (c .if1 .left))
 
 returns-2 : tie.Need-returns-2 Inv-loop μ-loop
 returns-2 c =
     let a = c .before .before .args in
     let l = c .before .loop in
-    all-closed (closedBy (now (a .rulerows)) (now (a .tg)) (now (a .ts)) (now (a .hs))) (a .rules) (l .r) (l .inv .0) (omega arith) (l .inv .1)
+    all-closed (closedBy (modelIn (now (a .m))) (now (a .tg)) (now (a .ts)) (now (a .hs))) (a .rules) (l .r) (l .inv .0) (omega arith) (l .inv .1)
 
 pub open-rule-spec : {M : Type 1} → statement M
 open-rule-spec =

@@ -5,19 +5,19 @@ use mathlib.Core.Path.{_≡_, refl}
 use Prim.Native.Nat.{_-_, _≤_}
 use denote.Ref.{now}
 use Rattle.product.specs.Lists.{upTo, all}
-use Rattle.model.specs.Model.{ruleAt, nextAt}
+use Rattle.lent.specs.Lending.{productIn}
 use Rattle.model.proofs.Counted.{more, stop, done}
 use Rattle.kept.specs.Kept.{inTable}
 use Rattle.kept.proofs.Ways.{kept-read}
-use Rattle.recheck.specs.Tests.{stepKept}
+use Rattle.recheck.specs.Tests.{step, stepKept}
 use Rattle.recheck.proofs.search.steps_kept.Statement.{statement}
 use Rattle.recheck.proofs.search.steps_kept.Tie as tie
 
 abbrev Inv-loop : tie.InvT-loop
-Inv-loop rulerows moverows shows heads triples size r v rule q₀ q = (q ≤ size .states) × (all (stepKept rulerows moverows shows (size .states) (inTable size heads triples) r v) (upTo q) ≡ true)
+Inv-loop m heads triples size r v rule q₀ q = (q ≤ size .states) × (all (stepKept (productIn m) (size .states) (inTable size heads triples) r v) (upTo q) ≡ true)
 
 abbrev μ-loop : tie.MeasureT-loop
-μ-loop rulerows moverows shows heads triples size r v rule q₀ q = size .states - q
+μ-loop m heads triples size r v rule q₀ q = size .states - q
 
 rule-at-requires : tie.Need-rule-at-requires Inv-loop μ-loop
 rule-at-requires c κs = search needs
@@ -38,9 +38,10 @@ returns : tie.Need-returns Inv-loop μ-loop
 returns c =
     let a = c .before .before .before .before .before .before .before .before .before .args in
     let t = inTable (a .size) (now (a .heads)) (now (a .triples)) in
-    let p = stepKept (now (a .rulerows)) (now (a .moverows)) (now (a .shows)) (a .size .states) t (a .r) (a .v) in
+    let k = productIn (now (a .m)) in
+    let p = stepKept k (a .size .states) t (a .r) (a .v) in
     let w = c .before .before .before .before .before .loop in
-    stop p (w .q) (kept-read (a .size .states) t (w .q) (ruleAt (now (a .rulerows)) (a .r)) (nextAt (now (a .rulerows)) (now (a .moverows)) (now (a .shows)) (a .r) (a .v) (w .q)) (c .before .before .before .before .before .before .rule-at .ensures) (c .before .before .next-state .ensures) (c .before .next-kept .ensures)) (a .size .states) (search needs) (c .if2 .taken)
+    stop p (w .q) (kept-read (a .size .states) t (w .q) (k .rule (a .r)) (k .next (step (a .r) (a .v)) (w .q)) (c .before .before .before .before .before .before .rule-at .ensures) (c .before .before .next-state .ensures .0) (c .before .next-kept .ensures)) (a .size .states) (search needs) (c .if2 .taken)
 
 add-q : tie.Need-add-q Inv-loop μ-loop
 add-q c = search needs
@@ -52,15 +53,17 @@ loop-again : tie.Need-loop-again Inv-loop μ-loop
 loop-again c =
     let a = c .before .before .before .before .before .before .before .before .before .args in
     let t = inTable (a .size) (now (a .heads)) (now (a .triples)) in
-    let p = stepKept (now (a .rulerows)) (now (a .moverows)) (now (a .shows)) (a .size .states) t (a .r) (a .v) in
+    let k = productIn (now (a .m)) in
+    let p = stepKept k (a .size .states) t (a .r) (a .v) in
     let w = c .before .before .before .before .before .loop in
-    (search needs, more p (w .q) (kept-read (a .size .states) t (w .q) (ruleAt (now (a .rulerows)) (a .r)) (nextAt (now (a .rulerows)) (now (a .moverows)) (now (a .shows)) (a .r) (a .v) (w .q)) (c .before .before .before .before .before .before .rule-at .ensures) (c .before .before .next-state .ensures) (c .before .next-kept .ensures)) (w .inv .1) (c .if2 .left))
+    (search needs, more p (w .q) (kept-read (a .size .states) t (w .q) (k .rule (a .r)) (k .next (step (a .r) (a .v)) (w .q)) (c .before .before .before .before .before .before .rule-at .ensures) (c .before .before .next-state .ensures .0) (c .before .next-kept .ensures)) (w .inv .1) (c .if2 .left))
 
 returns-2 : tie.Need-returns-2 Inv-loop μ-loop
 returns-2 c =
     let a = c .before .before .before .before .before .before .args in
     let t = inTable (a .size) (now (a .heads)) (now (a .triples)) in
-    let p = stepKept (now (a .rulerows)) (now (a .moverows)) (now (a .shows)) (a .size .states) t (a .r) (a .v) in
+    let k = productIn (now (a .m)) in
+    let p = stepKept k (a .size .states) t (a .r) (a .v) in
     let w = c .before .before .loop in
     done p (w .inv .0) (search needs) (w .inv .1)
 

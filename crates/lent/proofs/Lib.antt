@@ -1,0 +1,3 @@
+-- The laws of a lent model. Assumes nothing.
+pub mod Parts
+pub mod Packed

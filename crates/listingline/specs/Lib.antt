@@ -1,0 +1,2 @@
+-- What a line of a listing says. Assumes nothing.
+pub mod Line

@@ -1,0 +1,2 @@
+-- Laws about the definitions of specs/. Assumes nothing.
+pub mod Words
