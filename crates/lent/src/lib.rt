@@ -22,10 +22,8 @@ pub struct Row {
     pub under: u8,
 }
 
-mod pack; // a record's bytes
 mod valid; // which models are valid
 
-pub use pack::lend;
 pub use valid::is_valid;
 
 fn wide(b: u8) -> usize
