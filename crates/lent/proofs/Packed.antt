@@ -1,21 +1,14 @@
 -- The bytes of a record are that record. Assumes nothing.
 use mathlib.Core.Bool.{Bool, true, false}
-use mathlib.Core.List.{List, [], _∷_, _++_}
+use mathlib.Core.List.{List, [], _∷_, _++_, append-assoc, append-nil}
 use mathlib.Core.Path.{_≡_, refl, sym, ap, _∙_}
 use Prim.Native.Nat.{ℕ, _+_, _*_, _/_, _%_, _<_}
 use native.Mathlib.Omega.{arith}
-use lib.ListN.{length, getD, take, drop, length-map}
-use lib.Seq.{drop-drop, take-all, take-at, drop-at}
+use lib.ListN.{length, getD, take, drop, length-map, length-append, drop-of-length-le}
+use lib.Seq.{sets, sets-eq, drop-drop, take-at, drop-at}
 use Rattle.model.specs.declared.Model.{Model}
-use Rattle.lent.specs.Lending.{part, byteOf, truths, bytesOf, laid, packed, modelIn, shapeBytes}
+use Rattle.lent.specs.Lending.{part, byteOf, truths, bytesOf, laid, packed, modelIn, shapeBytes, Sized}
 use Rattle.lent.proofs.Parts.{in-part}
-
--- the arrays of a record are as long as the bytes have room for
-pub record Sized (m : Model) : Type 0 where
-  pub rules : length (m .rulerows) ≡ 1024
-  pub moves : length (m .moverows) ≡ 384
-  pub shows : length (m .shows) ≡ 512
-  pub finals : length (m .finals) ≡ 8
 
 pub length-bytes : (bs : List Bool) → length (bytesOf bs) ≡ length bs
 unfolding bytesOf
@@ -68,3 +61,42 @@ packed-is m z few fewer =
     let fs : truths (part 1920 8 cells) ≡ m .finals =
         ap truths (part-is cells 1920 8 (length-bytes (m .finals) ∙ z .finals) (from-finals m z last)) ∙ truths-bytes (m .finals) in
     rw (at 0 (omega arith), at 1 (omega arith), at 2 (omega arith), at 3 (omega arith), at 4 (omega arith), at 5 (omega arith), at 6 (omega arith), at 7 (omega arith), rs, ms, ss, fs, r, k)
+
+-- what lies before the last bytes
+front : (m : Model) (last : List ℕ) → laid m last ≡ laid m [] ++ last
+unfolding laid
+front m last =
+    let rs = m .rulerows in
+    let ms = m .moverows in
+    let ss = bytesOf (m .shows) in
+    let fs = bytesOf (m .finals) in
+    sym
+    (append-assoc rs (ms ++ (ss ++ (fs ++ []))) last
+    ∙ ap (λ xs. rs ++ xs) (append-assoc ms (ss ++ (fs ++ [])) last
+    ∙ ap (λ xs. ms ++ xs) (append-assoc ss (fs ++ []) last
+    ∙ ap (λ xs. ss ++ (xs ++ last)) (append-nil fs))))
+
+-- the last bytes put
+pub last-put : (m : Model) → Sized m → (last vs : List ℕ) → length last ≡ 8 → length vs ≡ 8 → sets (laid m last) 1928 vs ≡ laid m vs
+last-put m z last vs l k =
+    let n : length (laid m []) ≡ 1928 = front-length in
+    let e : length (laid m last) ≡ 1936 = ap length (front m last) ∙ length-append (laid m []) last ∙ omega arith in
+    sets-eq vs (laid m last) 1928 (omega arith)
+    ∙ ap (λ xs. take 1928 xs ++ vs ++ drop (1928 + length vs) (laid m last)) (front m last)
+    ∙ ap (λ xs. xs ++ vs ++ drop (1928 + length vs) (laid m last)) (take-at (laid m []) last 1928 n)
+    ∙ ap (λ xs. laid m [] ++ vs ++ xs) (drop-of-length-le (laid m last) (omega arith))
+    ∙ append-nil (laid m [] ++ vs)
+    ∙ sym (front m vs)
+  where
+    front-length : length (laid m []) ≡ 1928
+    unfolding laid
+    front-length =
+        let rs = m .rulerows in
+        let ms = m .moverows in
+        let ss = bytesOf (m .shows) in
+        let fs = bytesOf (m .finals) in
+        let a = length-append rs (ms ++ (ss ++ (fs ++ []))) in
+        let b = length-append ms (ss ++ (fs ++ [])) in
+        let c = length-append ss (fs ++ []) in
+        let d = length-append fs ([] {A = ℕ}) in
+        omega (arith, a, b, c, d, length-bytes (m .shows), length-bytes (m .finals), z .rules, z .moves, z .shows, z .finals)

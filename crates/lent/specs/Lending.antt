@@ -4,9 +4,10 @@
 use mathlib.Core.Bool.{Bool, cond}
 use mathlib.Core.List.{List, [], _∷_, _++_, map}
 use mathlib.Core.Option.{Option}
+use mathlib.Core.Path.{_≡_}
 use Prim.Native.Nat.{ℕ, _+_, _*_, _/_, _%_, _≤_}
 use lib.Dec.{eqb}
-use lib.ListN.{getD, take, drop}
+use lib.ListN.{length, getD, take, drop}
 use Rattle.product.specs.Product.{Product}
 use Rattle.model.specs.declared.Model.{Model}
 use Rattle.model.specs.declared.Shape.{Shape}
@@ -83,3 +84,10 @@ shapeBytes m =
 
 abbrev pub packed : Model → List ℕ
 packed m = laid m (shapeBytes m)
+
+-- the arrays of a record are as long as the bytes have room for
+pub record Sized (m : Model) : Type 0 where
+  pub rules : length (m .rulerows) ≡ 1024
+  pub moves : length (m .moverows) ≡ 384
+  pub shows : length (m .shows) ≡ 512
+  pub finals : length (m .finals) ≡ 8
