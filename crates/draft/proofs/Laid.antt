@@ -14,6 +14,7 @@ use Rattle.modelline.specs.declared.Line.{Line}
 use Rattle.modelline.specs.declared.Word.{Word}
 use Rattle.modelline.specs.declared.Word.the-variants.{Size, Start, Final, Event, Exit, Direct, Call, Move, Unknown}
 use Rattle.limits.specs.Limits.{refusal, tests, RuleFits, Fits}
+use Rattle.model.specs.declared.Model.{Model}
 use Rattle.lent.specs.Lending.{byteOf, bytesOf, laid, Sized}
 use Rattle.lent.proofs.Packed.{length-bytes}
 use Rattle.draft.specs.declared.Outline.{Outline}
@@ -25,8 +26,8 @@ use Rattle.draft.proofs.Stores.{gone-on}
 
 -- a cell behind the first list of two
 set-past : (xs ys : List ℕ) (i v : ℕ) → set (xs ++ ys) (length xs + i) v ≡ xs ++ set ys i v
-set-past [] ys i v = refl
-set-past (x ∷ xs) ys i v = ap (λ r. x ∷ r) (set-past xs ys i v)
+set-past [] ys i v = let e : 0 + i ≡ i = omega arith in rw e
+set-past (x ∷ xs) ys i v = let e : suc (length xs) + i ≡ suc (length xs + i) = omega arith in rw e (ap (λ r. x ∷ r) (set-past xs ys i v))
 
 set-behind : (xs ys : List ℕ) (n i p v : ℕ) → length xs ≡ n → p ≡ n + i → set (xs ++ ys) p v ≡ xs ++ set ys i v
 set-behind xs ys n i p v l e = rw (e, ← l) (set-past xs ys i v)
@@ -104,12 +105,13 @@ module _ (rs ms : List ℕ) (last : List ℕ) (wide : length rs ≡ 1024) (wide�
 
 -- a line that is taken does to the bytes what it does to the record
 module _ (d : Draft) (z : Sized (d .model)) (last : List ℕ) where
-  abbrev m = d .model
+  abbrev m : Model
+  m = d .model
 
   rule-written : (kind : ℕ) (n : Numbers) → RuleFits (countsOf d) n
       → fourAt (parts (m .rulerows) (m .moverows) (m .shows) (m .finals) last) (m .rules * 4) kind (nth n 0) (nth n 1) (nth n 2)
       ≡ parts (fourAt (m .rulerows) (m .rules * 4) kind (nth n 0) (nth n 1) (nth n 2)) (m .moverows) (m .shows) (m .finals) last
-  rule-written kind n (few, _) = let l = z .rules in four-cells (m .shows) (m .finals) last (m .rulerows) (m .moverows) (m .rules * 4) kind (nth n 0) (nth n 1) (nth n 2) (omega arith)
+  rule-written kind n (few, _, _, _) = let l = z .rules in four-cells (m .shows) (m .finals) last (m .rulerows) (m .moverows) (m .rules * 4) kind (nth n 0) (nth n 1) (nth n 2) (omega arith)
 
   pub written-laid : (w : Word) (n : Numbers) → Fits (countsOf d) w n → written (countsOf d) w n (laid (d .model) last) ≡ laid (after d w n .model) last
   unfolding laid
@@ -120,7 +122,7 @@ module _ (d : Draft) (z : Sized (d .model)) (last : List ℕ) where
   written-laid Exit n f = rule-written 0 n f
   written-laid Direct n f = rule-written 1 n f
   written-laid Call n f = rule-written 2 n f
-  written-laid Move n (few, _) =
+  written-laid Move n (few, _, _, _) =
       let l = z .moves in
       three-cells (m .shows) (m .finals) last (m .rulerows) (z .rules) (m .moverows) (m .moves * 3) (nth n 0) (nth n 1) (nth n 2) (omega arith)
   written-laid Unknown n f = refl

@@ -67,7 +67,7 @@ fits k w n p e = by-word k w n (passed (tests k w n) (rw p at e))
 pub line-number : (t : Tests) → (refusal t ≡ 0 → ⊥) → (2 ≤ refusal t) × (refusal t ≤ 5)
 line-number t n = go (t .malformed) (t .misplaced) (t .first) (t .second) (t .third) (t .full) n
   where
-    abbrev by : (a b c d e f : Bool) → ℕ
+    by : (a b c d e f : Bool) → ℕ
     by a b c d e f = pick a 2 (pick b 3 (pick c 4 (pick d 4 (pick e 4 (pick f 5 0)))))
 
     go : (a b c d e f : Bool) → (by a b c d e f ≡ 0 → ⊥) → (2 ≤ by a b c d e f) × (by a b c d e f ≤ 5)
