@@ -111,6 +111,10 @@ accepted-valid s e = accepted-gives s e .is-valid
 pub accepted-says : (s : List ℕ) {m : Model} → readModel s ≡ answered m → Says (said s) m
 accepted-says s e = accepted-gives s e .says
 
+empty-is : modelIn (packed empty) ≡ empty
+unfolding empty
+empty-is = packed-is empty sized-empty (omega arith) (omega arith)
+
 -- the bytes that a reading leaves are the record that it gives
 pub read-is : (s : List ℕ) → modelIn (packed (modelOf (readModel s))) ≡ modelOf (readModel s)
 read-is s = go (readModel s) (accepted-right s)
@@ -118,13 +122,9 @@ read-is s = go (readModel s) (accepted-right s)
     go : (a : Answer Model) → Right (said s) a → modelIn (packed (modelOf a)) ≡ modelOf a
     go (answered m) g = let z = valid-sizes m (g .is-valid) in packed-is m (g .sized) (let l = z .rules in omega arith) (let l = z .moves in omega arith)
     go (refused number values) g = empty-is
-      where
-        empty-is : modelIn (packed empty) ≡ empty
-        unfolding empty
-        empty-is = packed-is empty sized-empty (omega arith) (omega arith)
 
 -- the code's answer, out of what it means
-back : Answer Model → Reading
+abbrev back : Answer Model → Reading
 back (answered m) = Accepted
 back (refused number values) =
     pick (eqb number 1) TooLong

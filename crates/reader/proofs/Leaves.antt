@@ -65,6 +65,10 @@ module _ {o : Outline} {cells cells′ : List ℕ} (d : Draft) (s : Stands (repl
         bytes = e ∙ rw (s .bytes, s .outline) (last-put (d .model) (s .sized) (replicate 8 0) _ (length-replicate {A = ℕ} 8 0) refl);
       })
 
+-- a refusal by its number
+pub as-number : (line : ℕ) {n k : ℕ} → n ≡ k → _≡_ {A = Answer Model} (refused k (line ∷ [])) (refused n (line ∷ []))
+as-number line e = ap (λ n. refused n (line ∷ [])) (sym e)
+
 -- the number of a line that is refused
 pub line-numbered : {o : Outline} {l : Line} {cells cells′ : List ℕ} {r : Noted} → Notes o l cells r cells′ → (r .refusal ≡ 0 → ⊥) → (2 ≤ r .refusal) × (r .refusal ≤ 5)
 line-numbered {o} {l} x n =
