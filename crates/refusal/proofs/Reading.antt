@@ -63,20 +63,20 @@ different : false ≡ true → ⊥
 different e = let z : _≡_ {A = ℕ} 0 1 = cc in omega arith
 
 -- by the case of a reading
-pub case-put : {o p : List ℕ} {a b : ℕ} {r w : Reading} → r ≡ w → ((m : Model) → Put o p a b (refusalBytes (meaning w m))) → (m : Model) → Put o p a b (refusalBytes (meaning r m))
-case-put e x m = as-put (ap (λ r. refusalBytes (meaning r m)) (sym e)) (x m)
+pub case-put : {o p : List ℕ} {a b : ℕ} {r w : Reading} → r ≡ w → Put o p a b (refusalBytes (meaning w empty)) → Put o p a b (refusalBytes (meaning r empty))
+case-put e x = as-put (ap (λ r. refusalBytes (meaning r empty)) (sym e)) x
 
 pub case-line : {r w : Reading} → r ≡ w → lineIn (meaning r empty) < 65536 → lineIn (meaning w empty) < 65536
 case-line e h = subst (λ r. lineIn (meaning r empty) < 65536) e h
 
--- the line of a refusal is the same for any model
-line-same : (r : Reading) (m m′ : Model) → lineIn (meaning r m) ≡ lineIn (meaning r m′)
-line-same Accepted m m′ = refl
-line-same TooLong m m′ = refl
-line-same (Malformed line) m m′ = refl
-line-same (Misplaced line) m m′ = refl
-line-same (OutOfRange line) m m′ = refl
-line-same (TooMany line) m m′ = refl
+-- what does not look at the model is the same for any
+unlooked : {B : Type 0} (f : Answer Model → B) → ((m m′ : Model) → f (answered m) ≡ f (answered m′)) → (r : Reading) (m m′ : Model) → f (meaning r m) ≡ f (meaning r m′)
+unlooked f same Accepted m m′ = same m m′
+unlooked f same TooLong m m′ = refl
+unlooked f same (Malformed line) m m′ = refl
+unlooked f same (Misplaced line) m m′ = refl
+unlooked f same (OutOfRange line) m m′ = refl
+unlooked f same (TooMany line) m m′ = refl
 
 -- nothing is put
 pub nothing-put : (o : List ℕ) → Put o o 0 0 []
@@ -84,17 +84,15 @@ nothing-put o = none-put o 0 (omega arith)
 
 -- what was read is what is meant
 module _ (s : List ℕ) {r : Reading} {cells : List ℕ} (x : Read (readModel s) r cells) where
-  pub line-fits : lineIn (meaning r empty) < 65536
-  line-fits = omega (arith, line-small s, ap lineIn (x .answer), line-same r empty (modelOf (readModel s)))
+  meant : {B : Type 0} (f : Answer Model → B) → ((m m′ : Model) → f (answered m) ≡ f (answered m′)) → f (meaning r empty) ≡ f (readModel s)
+  meant f same = unlooked f same r empty (modelOf (readModel s)) ∙ ap f (x .answer)
 
-  pub seeing : {o p : List ℕ} {accepted : Bool} {end : ℕ} → ((m : Model) → accepted ≡ isAnswered (meaning r m)) → ((m : Model) → Put o p 0 end (refusalBytes (meaning r m)))
+  pub line-fits : lineIn (meaning r empty) < 65536
+  line-fits = omega (arith, line-small s, meant lineIn (λ m m′. refl))
+
+  pub seeing : {o p : List ℕ} {accepted : Bool} {end : ℕ} → accepted ≡ isAnswered (meaning r empty) → Put o p 0 end (refusalBytes (meaning r empty))
       → Seeing s o p (record { accepted = accepted; end = end }) cells
-  seeing a y =
-      record {
-        accepts = a (modelOf (readModel s)) ∙ ap isAnswered (x .answer);
-        reads = x .bytes;
-        puts = as-put (ap refusalBytes (x .answer)) (y (modelOf (readModel s)));
-      }
+  seeing a y = record { accepts = a ∙ meant isAnswered (λ m m′. refl); reads = x .bytes; puts = as-put (meant refusalBytes (λ m m′. refl)) y }
 
 -- the model of a text that is accepted
 accepted-is : (a : Answer Model) → isAnswered a ≡ true → a ≡ answered (modelOf a)

@@ -3,7 +3,6 @@ ghost use mathlib.Core.Path.{_≡_};
 ghost use mathlib.Core.List.{[]};
 ghost use Prim.Native.Nat.{ℕ, _<_};
 ghost use Rattle.text.specs.Put.{Put};
-ghost use Rattle.model.specs.declared.Model.{Model};
 ghost use Rattle.reader.specs.Reading.{meaning, empty};
 ghost use Rattle.refusal.specs.Refusal.{refusedBytes, isAnswered, lineIn, refusalBytes, Seeing};
 use lent::Lent;
@@ -26,7 +25,7 @@ pub fn put_refused(out: &mut [u8], number: u16, line: u16) -> usize
 // Puts the line of a refused reading, and nothing for one that is accepted.
 fn put_reading(out: &mut [u8], reading: Reading) -> usize
     requires { ⌜ lineIn (meaning reading empty) < 65536 ⌝ }
-    ensures { λ r. ⌜ ((m : Model) → Put (now (out .entry)) (now (out .exit)) 0 r (refusalBytes (meaning reading m))) ⌝ }
+    ensures { λ r. ⌜ Put (now (out .entry)) (now (out .exit)) 0 r (refusalBytes (meaning reading empty)) ⌝ }
 {
     match reading {
         Reading::Accepted => 0,
@@ -39,7 +38,7 @@ fn put_reading(out: &mut [u8], reading: Reading) -> usize
 }
 
 fn is_accepted(reading: Reading) -> bool
-    ensures { λ r. ⌜ ((m : Model) → r ≡ isAnswered (meaning reading m)) ⌝ }
+    ensures { λ r. ⌜ r ≡ isAnswered (meaning reading empty) ⌝ }
 {
     match reading {
         Reading::Accepted => true,
