@@ -19,7 +19,8 @@ use Rattle.model.specs.declared.Model.{Model}
 use Rattle.model.specs.declared.Rule.{Rule}
 use Rattle.model.specs.declared.Next.{Next}
 use Rattle.model.specs.Answers.{ruleAs, nextAs, meant, landed}
-use Rattle.model.specs.Model.{move, shown}
+use Rattle.model.specs.Model as model
+use Rattle.model.specs.Model.{move}
 use Rattle.model.specs.Valid.{valid}
 use Rattle.lent.specs.Lending.{shapeIn, modelIn, productIn, nextBy, InByte}
 use Rattle.bits.specs.Matrix.{multiplied, image}
@@ -78,8 +79,8 @@ pub record OneAnswer : Type 0 where
   pub culprit : (lent : List ℕ) (z : Size) (heads triples : List ℕ) (s a : ℕ) → One (λ f. f ≡ goalAs (culpritIn (productIn lent .final) (z .symbols) (z .states) heads triples s a))
   pub is-clean : (lent : List ℕ) (z : Size) (heads triples : List ℕ) (s a : ℕ) → One (λ b. b ≡ cleanIn (productIn lent .final) (z .symbols) (z .states) heads triples s a)
   -- lent
-  pub blank : One (λ cells. cells ≡ replicate 1936 0)
-  pub shows : (lent : List ℕ) (g e : ℕ) → One (λ b. b ≡ shown (modelIn lent) g e)
+  pub blank : One (λ cells. cells ≡ replicate {A = ℕ} 1936 0)
+  pub shows : (lent : List ℕ) (g e : ℕ) → One (λ b. b ≡ model.shown (modelIn lent) g e)
   pub is-valid : (lent : List ℕ) → One (λ b. b ≡ valid (modelIn lent))
   pub shape : (lent : List ℕ) → One (λ s. s ≡ shapeIn lent)
   pub rule-at : (lent : List ℕ) (r : ℕ) → One (λ ρ. ρ ≡ ruleAs (productIn lent .rule r))
