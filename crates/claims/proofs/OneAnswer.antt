@@ -46,9 +46,10 @@ ranked before fault put r r′ after after′ a b = (a .answers ∙ sym (b .answ
 
 -- a text read, and its refusal put
 seeing : (text out : List ℕ) → Both (λ r (x : List ℕ × List ℕ). Seeing text out (x .0) r (x .1))
-seeing text out r r′ x x′ a b =
-    (ap₂ (λ (a : Bool) (n : ℕ). record { accepted = a; end = n }) (a .accepts ∙ sym (b .accepts)) (a .puts .place ∙ sym (b .puts .place)),
-    ap₂ (λ (after cells : List ℕ). (after, cells)) (a .puts .cells ∙ sym (b .puts .cells)) (a .reads ∙ sym (b .reads)))
+seeing text out r r′ x x′ a b = (
+  ap₂ (λ (a : Bool) (n : ℕ). record { accepted = a; end = n }) (a .accepts ∙ sym (b .accepts)) (a .puts .place ∙ sym (b .puts .place)),
+  ap₂ (λ (after cells : List ℕ). (after, cells)) (a .puts .cells ∙ sym (b .puts .cells)) (a .reads ∙ sym (b .reads)),
+)
 
 pub each-answer : OneAnswer
 each-answer = record {

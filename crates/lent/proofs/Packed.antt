@@ -51,15 +51,15 @@ packed-is m z few fewer =
     let cells = packed m in
     let last = shapeBytes m in
     let at : (i : ℕ) → i < 8 → getD cells (1928 + i) 0 ≡ getD last i 0 =
-        λ i l. in-part cells 1928 8 i (1928 + i) refl l ∙ ap (λ xs. getD (take 8 xs) i 0) (from-last m z last) in
+    λ i l. in-part cells 1928 8 i (1928 + i) refl l ∙ ap (λ xs. getD (take 8 xs) i 0) (from-last m z last) in
     let r : m .rules % 256 + 256 * (m .rules / 256 % 256) ≡ m .rules = omega arith in
     let k : m .moves % 256 ≡ m .moves = omega arith in
     let rs : part 0 1024 cells ≡ m .rulerows = part-is cells 0 1024 (m .rulerows) _ (z .rules) (from-rules m z last) in
     let ms : part 1024 384 cells ≡ m .moverows = part-is cells 1024 384 (m .moverows) _ (z .moves) (from-moves m z last) in
     let ss : truths (part 1408 512 cells) ≡ m .shows =
-        ap truths (part-is cells 1408 512 (bytesOf (m .shows)) _ (length-bytes (m .shows) ∙ z .shows) (from-shows m z last)) ∙ truths-bytes (m .shows) in
+    ap truths (part-is cells 1408 512 (bytesOf (m .shows)) _ (length-bytes (m .shows) ∙ z .shows) (from-shows m z last)) ∙ truths-bytes (m .shows) in
     let fs : truths (part 1920 8 cells) ≡ m .finals =
-        ap truths (part-is cells 1920 8 (bytesOf (m .finals)) last (length-bytes (m .finals) ∙ z .finals) (from-finals m z last)) ∙ truths-bytes (m .finals) in
+    ap truths (part-is cells 1920 8 (bytesOf (m .finals)) last (length-bytes (m .finals) ∙ z .finals) (from-finals m z last)) ∙ truths-bytes (m .finals) in
     rw (at 0 (omega arith), at 1 (omega arith), at 2 (omega arith), at 3 (omega arith), at 4 (omega arith), at 5 (omega arith), at 6 (omega arith), at 7 (omega arith), rs, ms, ss, fs, r, k)
 
 -- what lies before the last bytes

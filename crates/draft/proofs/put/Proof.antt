@@ -47,7 +47,7 @@ cast-mark-3 : tie.Need-cast-mark-3
 cast-mark-3 c = search needs
 
 add-mark : tie.Need-add-mark
-add-mark c = 
+add-mark c =
     let at = c .before .before .before .before .before .args .l .numbers .at in
     let g : Fits w32 (getD at 0 0) = search needs in
     let e : Fits w32 (getD at 1 0) = search needs in

@@ -23,7 +23,7 @@ no-outline-requires : tie.Need-no-outline-requires Inv-loop μ-loop
 no-outline-requires c κs = search needs
 
 loop-holds : tie.Need-loop-holds Inv-loop μ-loop
-loop-holds c = 
+loop-holds c =
     let start = c .before .before in
     (_, first-stands (c .no-outline .ensures) (start .pre .1), first-turn (start .args .text .now))
 
@@ -34,7 +34,7 @@ refuse-requires : tie.Need-refuse-requires Inv-loop μ-loop
 refuse-requires c κs = search needs
 
 returns : tie.Need-returns Inv-loop μ-loop
-returns c = 
+returns c =
     let short = c .before .before in
     let line = short .before in
     let turn = line .before .before in
@@ -45,7 +45,7 @@ take-line-requires : tie.Need-take-line-requires Inv-loop μ-loop
 take-line-requires c κs = search needs
 
 numbered-requires : tie.Need-numbered-requires Inv-loop μ-loop
-numbered-requires c κs = 
+numbered-requires c κs =
     let refused = c .before in
     line-numbered (refused .before .take-line .ensures) (refused .if2 .taken)
 
@@ -53,7 +53,7 @@ refuse-requires-2 : tie.Need-refuse-requires-2 Inv-loop μ-loop
 refuse-requires-2 c κs = search needs
 
 returns-2 : tie.Need-returns-2 Inv-loop μ-loop
-returns-2 c = 
+returns-2 c =
     let number = c .before in
     let refused = number .before .before in
     let taken = refused .before in
@@ -65,7 +65,7 @@ returns-2 c =
     (λ m. ap (λ r. meaning r m) (c .refuse2 .ensures .0) ∙ number .numbered .ensures m) (c .refuse2 .ensures .1)
 
 add-n : tie.Need-add-n Inv-loop μ-loop
-add-n c = 
+add-n c =
     let turn = c .before .before .before .before .before .before .before .before in
     let (d, _, t) = turn .loop .inv in
     let r = t .room in
@@ -85,27 +85,29 @@ part-left-end : tie.Need-part-left-end Inv-loop μ-loop
 part-left-end c = search needs
 
 loop-less : tie.Need-loop-less Inv-loop μ-loop
-loop-less c = 
+loop-less c =
     let whole = c .before .before .before .before .before .before in
     let turn = whole .before .before .before in
     after-shorter _ (turn .loop .left .now) (whole .if1 .left)
 
 loop-again : tie.Need-loop-again Inv-loop μ-loop
-loop-again c = 
+loop-again c =
     let passed = c .before .before in
     let taken = passed .before in
     let whole = taken .before .before .before in
     let line = whole .before in
     let turn = line .before .before in
-    let (d, s, t) = turn .loop .inv in
-    (_, stands-next s (taken .take-line .ensures) (passed .if2 .left),
-    next-turn t (line .read-line .ensures) (whole .if1 .left) (same-refusal s (taken .take-line .ensures)) (passed .if2 .left))
+    let (d, s, t) = turn .loop .inv in (
+      _,
+      stands-next s (taken .take-line .ensures) (passed .if2 .left),
+      next-turn t (line .read-line .ensures) (whole .if1 .left) (same-refusal s (taken .take-line .ensures)) (passed .if2 .left),
+    )
 
 finish-requires : tie.Need-finish-requires Inv-loop μ-loop
 finish-requires c κs = search needs
 
 returns-3 : tie.Need-returns-3 Inv-loop μ-loop
-returns-3 c = 
+returns-3 c =
     let ended = c .before .before in
     let (d, s, t) = ended .before .loop .inv in
     rw (done t (ended .loop-test .left)) (c .finish .ensures d s)

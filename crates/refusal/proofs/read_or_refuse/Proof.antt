@@ -9,7 +9,7 @@ read-model-requires : tie.Need-read-model-requires
 read-model-requires c κs = search needs
 
 put-reading-requires : tie.Need-put-reading-requires
-put-reading-requires c κs = 
+put-reading-requires c κs =
     let read = c .before in
     line-fits (read .before .before .before .before .args .text .now) (read .read-model .ensures)
 
@@ -20,7 +20,7 @@ same-length : tie.Need-same-length
 same-length c = put-length (c .before .before .before .put-reading .ensures)
 
 returns : tie.Need-returns
-returns c = 
+returns c =
     let put = c .before .before .before in
     let read = put .before .before in
     seeing (read .before .before .before .before .args .text .now) (read .read-model .ensures) (c .is-accepted .ensures) (put .put-reading .ensures)

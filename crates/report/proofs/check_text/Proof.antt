@@ -14,19 +14,19 @@ read-or-refuse-requires : tie.Need-read-or-refuse-requires
 read-or-refuse-requires c κs = search needs
 
 put-model-requires : tie.Need-put-model-requires
-put-model-requires c κs = 
+put-model-requires c κs =
     let tested = c .before .before in
     let seen = tested .before .before .before in
     model-valid (seen .read-or-refuse .ensures) (tested .if1 .taken)
 
 same-length : tie.Need-same-length
-same-length c = 
+same-length c =
     let put = c .before .before in
     let seen = put .before .before .before .before .before .before in
     put-length (put .put-model .ensures) ∙ put-length (seen .read-or-refuse .ensures .puts)
 
 returns : tie.Need-returns
-returns c = 
+returns c =
     let put = c .before .before in
     let tested = put .before .before .before in
     let seen = tested .before .before .before in

@@ -16,7 +16,7 @@ blank-requires : tie.Need-blank-requires
 blank-requires c κs = search needs
 
 slice-aggregate-read-or-refuse : tie.Need-slice-aggregate-read-or-refuse
-slice-aggregate-read-or-refuse c = 
+slice-aggregate-read-or-refuse c =
     let at = c .before .before in
     let t = now (at .before .before .before .args .text) in
     model-length t (at .listing-at .ensures)
@@ -25,13 +25,13 @@ read-or-refuse-requires : tie.Need-read-or-refuse-requires
 read-or-refuse-requires c κs = search needs
 
 sub-put-listing : tie.Need-sub-put-listing
-sub-put-listing c = 
+sub-put-listing c =
     let at = c .before .before .before .before .before .before .before .before .before .before in
     let t = now (at .before .before .before .args .text) in
     place-within t (at .listing-at .ensures)
 
 part-put-listing-start : tie.Need-part-put-listing-start
-part-put-listing-start c = 
+part-put-listing-start c =
     let at = c .before .before .before .before .before .before .before .before .before .before in
     let t = now (at .before .before .before .args .text) in
     place-within t (at .listing-at .ensures)
@@ -40,20 +40,20 @@ part-put-listing-end : tie.Need-part-put-listing-end
 part-put-listing-end c = search needs
 
 put-listing-requires : tie.Need-put-listing-requires
-put-listing-requires c κs = 
+put-listing-requires c κs =
     let tested = c .before .before .before in
     let seen = tested .before .before .before in
     model-valid (seen .read-or-refuse .ensures) (tested .if1 .taken)
 
 same-length : tie.Need-same-length
-same-length c = 
+same-length c =
     let put = c .before .before in
     let tested = put .before .before .before .before in
     let seen = tested .before .before .before in
     put-length (put .put-listing .ensures) ∙ put-length (seen .read-or-refuse .ensures .puts)
 
 returns : tie.Need-returns
-returns c = 
+returns c =
     let put = c .before .before in
     let tested = put .before .before .before .before in
     let seen = tested .before .before .before in
@@ -66,7 +66,7 @@ same-length-2 : tie.Need-same-length-2
 same-length-2 c = put-length (c .before .before .before .read-or-refuse .ensures .puts)
 
 returns-2 : tie.Need-returns-2
-returns-2 c = 
+returns-2 c =
     let seen = c .before .before .before in
     let at = seen .before .before .before .before .before in
     let t = now (at .before .before .before .args .text) in
