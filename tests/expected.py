@@ -35,14 +35,13 @@ def reading(data):
         return second.record(b"refused", refusal, line)
     rules = [n for rule in model.rules for n in (KINDS[rule.kind], rule.top, rule.first or 0, rule.second or 0)]
     moves = [n for move in model.moves for n in move]
-    told = {tuple(map(int, l.split(b"\t")[1:])) for l in data.split(b"\n") if l.startswith(b"event\t")}
     return b"".join([
         second.record(b"accepted", model.symbols, model.states, model.events, model.start_state, model.start_symbol,
                       len(model.rules), len(model.moves)),
         second.record(b"rules", *rules),
         second.record(b"moves", *moves),
         second.record(b"finals", *sorted(model.finals)),
-        second.record(b"shows", *sorted(g * 16 + e for g, e in told)),
+        second.record(b"shows", *sorted(g * 16 + e for g, e in model.shows if e)),
     ])
 
 

@@ -140,14 +140,14 @@ fn call(m: &Lent, given: [u32; 4]) {
 
 // A text is read; and the calls are made where four numbers are given.
 fn answer(part: &[u8], numbers: Numbers) {
-    let read = reader::read_model(part);
+    let mut m = lent::blank();
+    let r = reader::read_model(part, &mut m);
     if numbers.count == 4 {
         let given = numbers.at;
-        let m = lent::lend(read.model);
         call(&m, given);
         return;
     }
-    reading::show_reading(read);
+    reading::show_reading(r, &m);
 }
 
 // The place after the text that is announced at the front of s, or 0 where there is none.

@@ -58,14 +58,3 @@ pub fn numbers(s: &[u16], n: usize, x: u64) -> u64 {
     }
     k
 }
-
-// Writes the places that are true.
-pub fn places(s: &[bool]) {
-    let mut i = 0;
-    while i < s.len() {
-        if s[i] {
-            field(i as u64);
-        }
-        i += 1;
-    }
-}

@@ -1,15 +1,14 @@
 -- Each contract of the other calls allows one outcome: two things equal to a third are equal. Assumes nothing.
 use mathlib.Core.Bool.{Bool}
 use mathlib.Core.List.{List}
-use mathlib.Core.Path.{_≡_, refl, sym, ap, _∙_}
+use mathlib.Core.Path.{_≡_, refl, sym, ap, ap₂, _∙_}
 use Prim.Native.Nat.{ℕ}
 use Rattle.text.specs.Put.{Put}
-use Rattle.model.specs.declared.Model.{Model}
 use Rattle.ranking.specs.Rank.{Ranked}
-use Rattle.limits.specs.declared.Counts.{Counts}
+use Rattle.modelline.specs.declared.Line.{Line}
 use Rattle.draft.specs.declared.Outline.{Outline}
 use Rattle.draft.specs.declared.Noted.{Noted}
-use Rattle.draft.specs.Draft.{Taken}
+use Rattle.draft.specs.Written.{Notes}
 use Rattle.rows.specs.declared.Tally.{Tally}
 use Rattle.rows.specs.declared.End.{End}
 use Rattle.rows.specs.State.{Ended}
@@ -30,12 +29,12 @@ endOf e =
     let t : Tally = record { begun = s .begun; rounds = s .rounds; headcount = s .headcount; triplecount = s .triplecount; heads = s .heads; triples = s .triples } in
     (record { refusal = e .refusal; line = e .line; tally = t }, s .headcells, s .triplecells)
 
-abbrev notedOf : Taken → Noted × List Bool × List Bool × List ℕ × List ℕ
-notedOf t =
-    let m = t .draft .model in
-    let k : Counts = record { symbols = m .symbols; states = m .states; events = m .events; started = t .draft .started; rules = m .rules; moves = m .moves } in
-    let o : Outline = record { counts = k; startstate = m .startstate; startsymbol = m .startsymbol } in
-    (record { refusal = t .refusal; outline = o }, m .finals, m .shows, m .rulerows, m .moverows)
+-- a line noted
+noted : (o : Outline) (l : Line) (cells : List ℕ) → Both (λ r after. Notes o l cells r after)
+noted o l cells r r′ after after′ a b =
+    let n : r .refusal ≡ r′ .refusal = a .number ∙ sym (b .number) in
+    let e : r .outline ≡ r′ .outline = a .outline ∙ rw n (sym (b .outline)) in
+    (ap₂ (λ (n : ℕ) (o : Outline). record { refusal = n; outline = o }) n e, a .bytes ∙ rw n (sym (b .bytes)))
 
 -- bytes put into lent memory
 put : (out : List ℕ) (at : ℕ) (s : List ℕ) → Both (λ r after. Put out after at r s)
@@ -46,13 +45,11 @@ ranked : (before : List ℕ) (fault : ℕ) (put : List ℕ) → Both (λ r after
 ranked before fault put r r′ after after′ a b = (a .answers ∙ sym (b .answers), a .leaves ∙ sym (b .leaves))
 
 -- a text read, and its refusal put
-seen-eq : {a a′ : Bool} {n n′ : ℕ} {m m′ : Model} → a ≡ a′ → n ≡ n′ → m ≡ m′ → _≡_ {A = Seen} (record { accepted = a; end = n; model = m }) (record { accepted = a′; end = n′; model = m′ })
-seen-eq {a} {a′} {n} {n′} {m} {m′} e f g =
-    ap (λ (x : Bool). record { accepted = x; end = n; model = m }) e ∙ ap (λ (x : ℕ). record { accepted = a′; end = x; model = m }) f
-    ∙ ap (λ (x : Model). record { accepted = a′; end = n′; model = x }) g
-
-seeing : (text out : List ℕ) → Both (λ r after. Seeing text out after r)
-seeing text out r r′ after after′ a b = (seen-eq (a .accepts ∙ sym (b .accepts)) (a .puts .place ∙ sym (b .puts .place)) (a .reads ∙ sym (b .reads)), a .puts .cells ∙ sym (b .puts .cells))
+seeing : (text out : List ℕ) → Both (λ r (x : List ℕ × List ℕ). Seeing text out (x .0) r (x .1))
+seeing text out r r′ x x′ a b = (
+  ap₂ (λ (a : Bool) (n : ℕ). record { accepted = a; end = n }) (a .accepts ∙ sym (b .accepts)) (a .puts .place ∙ sym (b .puts .place)),
+  ap₂ (λ (after cells : List ℕ). (after, cells)) (a .puts .cells ∙ sym (b .puts .cells)) (a .reads ∙ sym (b .reads)),
+)
 
 pub each-answer : OneAnswer
 each-answer = record {
@@ -70,7 +67,8 @@ each-answer = record {
   long-enough = λ z heads triples. equal _;
   culprit = λ lent z heads triples s a. equal _;
   is-clean = λ lent z heads triples s a. equal _;
-  lend = λ m c c′ e e′. e .bytes ∙ sym (e′ .bytes);
+  blank = equal _;
+  shows = λ lent g e. equal _;
   is-valid = λ lent. equal _;
   shape = λ lent. equal _;
   rule-at = λ lent r. equal _;
@@ -88,7 +86,7 @@ each-answer = record {
   model-line = λ s. equal _;
   listing-line = λ s. equal _;
   refusal-of = λ k l. equal _;
-  take-line = λ o finals shows rulerows moverows l. parted notedOf (λ x. refl) _;
+  take-line = λ o l cells. noted o l cells;
   size-of = λ lent. equal _;
   measure = λ lent heads triples. equal _;
   rank-head = λ z begun cells n. ranked cells _ _;

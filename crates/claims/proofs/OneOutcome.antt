@@ -2,12 +2,13 @@
 use mathlib.Core.Path.{sym, _∙_}
 use Rattle.decide.proofs.Coincide.{decided-one}
 use Rattle.trace.proofs.Outcome.{outcome-one}
+use Rattle.reader.proofs.Accepted as read
 use Rattle.replay.proofs.Outcomes.{one-outcome}
 use Rattle.claims.specs.OneOutcome.{OneOutcome}
 
 pub each-one : OneOutcome
 each-one = record {
-  reading = λ text r r′ e e′. e ∙ sym e′;
+  reading = λ text r r′ cells cells′ e e′. read.one-outcome e e′;
   listing = λ m text hs ts hs′ hs″ ts′ ts″ r r′ a b. (a .answers ∙ sym (b .answers), a .heads-left ∙ sym (b .heads-left), a .triples-left ∙ sym (b .triples-left));
   writing = λ m rounds hs ts out out′ out″ r r′ a b. (a .answers ∙ sym (b .answers), a .leaves ∙ sym (b .leaves));
   deciding = decided-one;

@@ -4,7 +4,7 @@ use mathlib.Core.Bool.{Bool}
 use mathlib.Core.List.{List, [], _∷_}
 use mathlib.Core.Path.{_≡_}
 use Prim.Native.Nat.{ℕ, _<_, _≤_}
-use lib.ListN.{length, take}
+use lib.ListN.{length, take, replicate}
 use Rattle.product.specs.Lists.{over}
 use Rattle.product.specs.Facts.{head}
 use Rattle.text.specs.Split.{first, sameBytes}
@@ -19,9 +19,10 @@ use Rattle.model.specs.declared.Model.{Model}
 use Rattle.model.specs.declared.Rule.{Rule}
 use Rattle.model.specs.declared.Next.{Next}
 use Rattle.model.specs.Answers.{ruleAs, nextAs, meant, landed}
+use Rattle.model.specs.Model as model
 use Rattle.model.specs.Model.{move}
 use Rattle.model.specs.Valid.{valid}
-use Rattle.lent.specs.Lending.{shapeIn, modelIn, productIn, nextBy, InByte, Lends}
+use Rattle.lent.specs.Lending.{shapeIn, modelIn, productIn, nextBy, InByte}
 use Rattle.bits.specs.Matrix.{multiplied, image}
 use Rattle.steps.specs.Steps.{classOf, symbolOf, classSteps, statesAfter}
 use Rattle.line.specs.Line as line
@@ -31,9 +32,7 @@ use Rattle.listingline.specs.Line as listingline
 use Rattle.limits.specs.declared.Counts as limits
 use Rattle.limits.specs.Limits.{refusal, tests}
 use Rattle.draft.specs.declared.Outline.{Outline}
-use Rattle.draft.specs.declared.Noted.{Noted}
-use Rattle.draft.specs.Draft.{whole, noted}
-use Rattle.draft.specs.Lines.{takeLine}
+use Rattle.draft.specs.Written.{Notes}
 use Rattle.fitting.specs.Fits.{sizeOf, fitOf}
 use Rattle.ranking.specs.Rank.{headFault, headPut, tripleFault, triplePut, Ranked}
 use Rattle.rows.specs.declared.End.{End}
@@ -80,7 +79,8 @@ pub record OneAnswer : Type 0 where
   pub culprit : (lent : List ℕ) (z : Size) (heads triples : List ℕ) (s a : ℕ) → One (λ f. f ≡ goalAs (culpritIn (productIn lent .final) (z .symbols) (z .states) heads triples s a))
   pub is-clean : (lent : List ℕ) (z : Size) (heads triples : List ℕ) (s a : ℕ) → One (λ b. b ≡ cleanIn (productIn lent .final) (z .symbols) (z .states) heads triples s a)
   -- lent
-  pub lend : (m : Model) → One (Lends m)
+  pub blank : One (λ cells. cells ≡ replicate {A = ℕ} 1936 0)
+  pub shows : (lent : List ℕ) (g e : ℕ) → One (λ b. b ≡ model.shown (modelIn lent) g e)
   pub is-valid : (lent : List ℕ) → One (λ b. b ≡ valid (modelIn lent))
   pub shape : (lent : List ℕ) → One (λ s. s ≡ shapeIn lent)
   pub rule-at : (lent : List ℕ) (r : ℕ) → One (λ ρ. ρ ≡ ruleAs (productIn lent .rule r))
@@ -102,8 +102,7 @@ pub record OneAnswer : Type 0 where
   pub listing-line : (s : List ℕ) → One (λ r. r ≡ listingline.lineAt s)
   -- limits and draft
   pub refusal-of : (k : limits.Counts) (l : Line) → One (λ r. r ≡ refusal (tests k (l .word) (l .numbers)))
-  pub take-line : (o : Outline) (finals shows : List Bool) (rulerows moverows : List ℕ) (l : Line)
-      → One {A = Noted × List Bool × List Bool × List ℕ × List ℕ} (λ x. noted (x .0) (x .1) (x .2) (x .3) (x .4) ≡ takeLine (whole o finals shows rulerows moverows) l)
+  pub take-line : (o : Outline) (l : Line) (cells : List ℕ) → Both (λ r after. Notes o l cells r after)
   -- fitting, ranking and rows
   pub size-of : (lent : List ℕ) → One (λ z. z ≡ sizeOf (modelIn lent))
   pub measure : (lent : List ℕ) (heads triples : ℕ) → One (λ r. r ≡ fitOf (modelIn lent) heads triples)
@@ -136,6 +135,6 @@ pub record OneAnswer : Type 0 where
   pub put-violation : (m : Model) (whole : Bool) (rounds count : ℕ) (out steps : List ℕ)
       → Both (λ r after. Put out after 0 r (violationBytes m whole rounds steps (shown (length steps) count)))
   pub put-refused : (out : List ℕ) (number line : ℕ) → Both (λ r after. Put out after 0 r (refusedBytes number line))
-  pub read-or-refuse : (text out : List ℕ) → Both (λ r after. Seeing text out after r)
+  pub read-or-refuse : (text out : List ℕ) → Both (λ r (x : List ℕ × List ℕ). Seeing text out (x .0) r (x .1))
   pub check-text : (out text : List ℕ) → Both (λ r after. Put out after 0 r (checkOutput text))
   pub recheck-text : (out text : List ℕ) → Both (λ r after. Put out after 0 r (recheckOutput text))

@@ -1,10 +1,8 @@
--- The model as far as its text is read: the outline, which goes by value, and the four lent arrays. Assumes nothing.
-use mathlib.Core.Bool.{Bool}
-use mathlib.Core.List.{List}
+-- The model as far as its text is read, and a model of which the outline alone is known. Assumes nothing.
+use mathlib.Core.List.{[]}
 use Prim.Native.Nat.{ℕ}
 use Rattle.model.specs.declared.Model.{Model}
 use Rattle.draft.specs.declared.Outline.{Outline}
-use Rattle.draft.specs.declared.Noted.{Noted}
 
 -- `started` is 1 from the start line on; before the size line there are no symbols
 pub record Draft : Type 0 where
@@ -16,9 +14,9 @@ pub record Taken : Type 0 where
   pub refusal : ℕ
   pub draft : Draft
 
--- a draft, and what a line does, out of what goes by value and what is lent
-abbrev pub whole : Outline → (finals shows : List Bool) → (rulerows moverows : List ℕ) → Draft
-whole o fs ss rs ms = record {
+-- a draft out of its outline alone: nothing is known of its rules, moves and truths
+abbrev pub bare : Outline → Draft
+bare o = record {
   started = o .counts .started;
   model = record {
     symbols = o .counts .symbols;
@@ -26,14 +24,11 @@ whole o fs ss rs ms = record {
     events = o .counts .events;
     startstate = o .startstate;
     startsymbol = o .startsymbol;
-    finals = fs;
-    shows = ss;
+    finals = [];
+    shows = [];
     rules = o .counts .rules;
-    rulerows = rs;
+    rulerows = [];
     moves = o .counts .moves;
-    moverows = ms;
+    moverows = [];
   };
 }
-
-abbrev pub noted : Noted → (finals shows : List Bool) → (rulerows moverows : List ℕ) → Taken
-noted r fs ss rs ms = record { refusal = r .refusal; draft = whole (r .outline) fs ss rs ms }

@@ -13,6 +13,7 @@ use Rattle.modelline.specs.declared.Word.the-variants.{Size, Start, Final, Even
 use Rattle.limits.specs.declared.Counts.{Counts}
 use Rattle.limits.specs.Limits.{refusal, tests}
 use Rattle.model.specs.declared.Model.{Model}
+use Rattle.draft.specs.declared.Outline.{Outline}
 use Rattle.draft.specs.Draft.{Draft, Taken}
 
 -- what a line is tested against
@@ -25,6 +26,10 @@ countsOf d = record {
   rules = d .model .rules;
   moves = d .model .moves;
 }
+
+-- what is known of a draft beside its rules, moves and truths
+abbrev pub outlineOf : Draft → Outline
+outlineOf d = record { counts = countsOf d; startstate = d .model .startstate; startsymbol = d .model .startsymbol }
 
 -- the numbers of a row that begins at i
 abbrev pub threeAt : List ℕ → ℕ → (a b c : ℕ) → List ℕ

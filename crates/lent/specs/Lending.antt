@@ -5,16 +5,16 @@ use mathlib.Core.Bool.{Bool, cond}
 use mathlib.Core.List.{List, [], _∷_, _++_, map}
 use mathlib.Core.Option.{Option}
 use mathlib.Core.Path.{_≡_}
-use Prim.Native.Nat.{ℕ, _+_, _*_, _/_, _%_, _≤_, min}
+use Prim.Native.Nat.{ℕ, _+_, _*_, _/_, _%_, _≤_}
 use lib.Dec.{eqb}
-use lib.ListN.{getD, take, drop}
+use lib.ListN.{length, getD, take, drop}
 use Rattle.product.specs.Product.{Product}
 use Rattle.model.specs.declared.Model.{Model}
 use Rattle.model.specs.declared.Shape.{Shape}
 use Rattle.model.specs.declared.Next.{Next}
 use Rattle.model.specs.declared.Next.the-variants.{To, Stuck}
 use Rattle.model.specs.Model.{inRow, productOf}
-use Rattle.model.specs.Valid.{ofParts, valid}
+use Rattle.model.specs.Valid.{ofParts}
 use Rattle.lent.specs.declared.Row.{Row}
 
 -- n cells from a place on
@@ -74,31 +74,20 @@ abbrev pub InByte : Next → Type 0
 InByte Stuck = Unit {0}
 InByte (To q) = q ≤ 255
 
--- A record with its counts as far as the bytes hold them, 65,535 rules and 255 moves. A valid record has fewer, and one with more is not valid.
-abbrev pub held : Model → Model
-held m = record {
-  symbols = m .symbols;
-  states = m .states;
-  events = m .events;
-  startstate = m .startstate;
-  startsymbol = m .startsymbol;
-  finals = m .finals;
-  shows = m .shows;
-  rules = min (m .rules) 65535;
-  rulerows = m .rulerows;
-  moves = min (m .moves) 255;
-  moverows = m .moverows;
-}
+-- The bytes of a record: its rules, its moves, what is shown, what is final; then the last eight, which say the rest of it in the order above.
+unfoldable pub laid : Model → (last : List ℕ) → List ℕ
+laid m last = m .rulerows ++ (m .moverows ++ (bytesOf (m .shows) ++ (bytesOf (m .finals) ++ last)))
 
--- the bytes of a record: its rules, its moves, what is shown, what is final, and the rest of it in the order above
 abbrev pub shapeBytes : Model → List ℕ
-shapeBytes m = m .symbols ∷ m .states ∷ m .events ∷ m .startstate ∷ m .startsymbol ∷ (min (m .rules) 65535 % 256) ∷ (min (m .rules) 65535 / 256 % 256) ∷ (min (m .moves) 255 % 256) ∷ []
+shapeBytes m =
+    m .symbols ∷ m .states ∷ m .events ∷ m .startstate ∷ m .startsymbol ∷ (m .rules % 256) ∷ (m .rules / 256 % 256) ∷ (m .moves % 256) ∷ []
 
 abbrev pub packed : Model → List ℕ
-packed m = m .rulerows ++ (m .moverows ++ (bytesOf (m .shows) ++ (bytesOf (m .finals) ++ shapeBytes m)))
+packed m = laid m (shapeBytes m)
 
--- what is lent for a record m: its bytes, which are the record itself, and are valid exactly if it is
-pub record Lends (m : Model) (cells : List ℕ) : Type 0 where
-  pub bytes : cells ≡ packed m
-  pub means : modelIn cells ≡ held m
-  pub alike : valid (modelIn cells) ≡ valid m
+-- the arrays of a record are as long as the bytes have room for
+pub record Sized (m : Model) : Type 0 where
+  pub rules : length (m .rulerows) ≡ 1024
+  pub moves : length (m .moverows) ≡ 384
+  pub shows : length (m .shows) ≡ 512
+  pub finals : length (m .finals) ≡ 8

@@ -1,7 +1,7 @@
 // A model as one lent array: those who have it ask by it. Only `steps`, and the engine's rows of rules, read its cells. specs/Lending.antt says which record it is.
 ghost use mathlib.Core.Path.{_≡_};
 ghost use Prim.Native.Nat.{_+_, _*_, _≤_, _<_};
-ghost use lib.ListN.{length, getD};
+ghost use lib.ListN.{replicate};
 ghost use Rattle.lent.specs.Lending.{part, shapeIn, rowIn, modelIn, productIn, nextBy, InByte};
 ghost use Rattle.product.specs.Product.{symbol};
 ghost use Rattle.model.specs.Answers.{meant, nextAs, ruleAs};
@@ -22,11 +22,16 @@ pub struct Row {
     pub under: u8,
 }
 
-mod pack; // a record's bytes
 mod valid; // which models are valid
 
-pub use pack::lend;
 pub use valid::is_valid;
+
+// Bytes for a model that is to be read.
+pub fn blank() -> Lent
+    ensures { λ cells. ⌜ cells ≡ replicate 1936 0 ⌝ }
+{
+    [0u8; 1936]
+}
 
 fn wide(b: u8) -> usize
     ensures { λ n. ⌜ (n ≡ b) × (n ≤ 255) ⌝ }
@@ -124,7 +129,7 @@ pub fn is_final(m: &Lent, q: usize) -> bool
 }
 
 // The symbol shows the event; every symbol shows event 0.
-fn shows(m: &Lent, g: usize, e: usize) -> bool
+pub fn shows(m: &Lent, g: usize, e: usize) -> bool
     ensures { λ b. ⌜ b ≡ shown (modelIn (now (m .entry))) g e ⌝ }
 {
     if e == 0 {

@@ -1,7 +1,7 @@
 -- A line that is not refused failed every test, and so fits. Assumes nothing.
 use mathlib.Core.Bool.{Bool, true, false, _||_}
 use mathlib.Core.Path.{_≡_, refl}
-use Prim.Native.Nat.{ℕ, suc}
+use Prim.Native.Nat.{ℕ, suc, _≤_}
 use native.Mathlib.Omega.{arith}
 use lib.Dec.{ltb}
 use borrow.Author.Tests.{ltb-false, leb-false}
@@ -62,3 +62,19 @@ by-word k Unknown n p = let e = p .malformed in let z : _≡_ {A = ℕ} 0 1 = cc
 
 pub fits : (k : Counts) (w : Word) (n : Numbers) {r : ℕ} → r ≡ refusal (tests k w n) → r ≡ 0 → Fits k w n
 fits k w n p e = by-word k w n (passed (tests k w n) (rw p at e))
+
+-- a refusal is one of the document's numbers of a line
+pub line-number : (t : Tests) → (refusal t ≡ 0 → ⊥) → (2 ≤ refusal t) × (refusal t ≤ 5)
+line-number t n = go (t .malformed) (t .misplaced) (t .first) (t .second) (t .third) (t .full) n
+  where
+    by : (a b c d e f : Bool) → ℕ
+    by a b c d e f = pick a 2 (pick b 3 (pick c 4 (pick d 4 (pick e 4 (pick f 5 0)))))
+
+    go : (a b c d e f : Bool) → (by a b c d e f ≡ 0 → ⊥) → (2 ≤ by a b c d e f) × (by a b c d e f ≤ 5)
+    go true b c d e f n = (omega arith, omega arith)
+    go false true c d e f n = (omega arith, omega arith)
+    go false false true d e f n = (omega arith, omega arith)
+    go false false false true e f n = (omega arith, omega arith)
+    go false false false false true f n = (omega arith, omega arith)
+    go false false false false false true n = (omega arith, omega arith)
+    go false false false false false false n = absurd (n refl)

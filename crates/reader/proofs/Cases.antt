@@ -8,12 +8,12 @@ use Rattle.reader.specs.Reading.{empty}
 use Rattle.draft.specs.Lines.{takeLine}
 use Rattle.reader.specs.Text.{readFrom, readModel}
 use Rattle.reader.specs.Says.{said}
-use Rattle.reader.specs.Cases.{textA, saidA, cases}
+use Rattle.reader.specs.Cases.{textA, saidA, ending, cases}
 
 pub a-said : said textA ≡ saidA
 unfolding said lineOf lineBy first later sameBytes spelled numberOf numbersFrom
 a-said = refl
 
-pub cases-end : each cases (λ c. readModel (c .text) .reading) ≡ each cases (λ c. c .ends)
+pub cases-end : each cases (λ c. ending (readModel (c .text))) ≡ each cases (λ c. c .ends)
 unfolding cases empty takeLine readFrom readModel lineOf lineBy first later sameBytes spelled numberOf numbersFrom
 cases-end = refl

@@ -5,8 +5,8 @@ use lib.ListN.{take}
 use Rattle.product.specs.Lists.{over}
 use Rattle.product.specs.Product as product
 use Rattle.modelline.specs.Line.{size, start, final, event, exit, direct, call, move}
-use Rattle.reader.specs.declared.Reading.{Reading}
-use Rattle.reader.specs.declared.Reading.the-variants.{Accepted, Malformed, Misplaced, OutOfRange}
+use Rattle.product.specs.Answer.{Answer, answered, refused}
+use Rattle.model.specs.declared.Model.{Model}
 use Rattle.reader.specs.Says.{Said}
 
 -- a line with its line feed, by its word and its numbers, each of one digit
@@ -35,31 +35,42 @@ saidA = record {
   moves = record { source = 0; event = 0; target = 0 } ∷ record { source = 0; event = 1; target = 1 } ∷ [];
 }
 
+-- how a reading ends: the number of its refusal and the line, or nothing where it is accepted
+abbrev pub ending : Answer Model → List ℕ
+ending (answered m) = []
+ending (refused number values) = number ∷ values
+
 -- a text, and how its reading ends
 pub record Case : Type 0 where
   pub text : List ℕ
-  pub ends : Reading
+  pub ends : List ℕ
 
 infix 5 _gives_
-abbrev pub _gives_ : List ℕ → Reading → Case
+abbrev pub _gives_ : List ℕ → List ℕ → Case
 text gives ends = record { text = text; ends = ends }
+
+abbrev pub accepted : List ℕ
+accepted = []
+
+abbrev pub refusal : (number line : ℕ) → List ℕ
+refusal number line = number ∷ line ∷ []
 
 abbrev pub least : List ℕ
 least = row size (1 ∷ 1 ∷ 1 ∷ [])
 
 unfoldable pub cases : List Case
 cases =
-    (textA gives Accepted)
-    ∷ (take 20 textA gives Malformed 2)
-    ∷ ([] gives Misplaced 0)
-    ∷ (10 ∷ [] gives Malformed 1)
-    ∷ (row start (0 ∷ 0 ∷ []) gives Misplaced 1)
-    ∷ (row size (0 ∷ 1 ∷ 1 ∷ []) gives OutOfRange 1)
-    ∷ (row size (1 ∷ 1 ∷ []) gives Malformed 1)
-    ∷ (least gives Misplaced 0)
-    ∷ (least ++ least gives Misplaced 2)
-    ∷ (least ++ row start (0 ∷ 1 ∷ []) gives OutOfRange 2)
-    ∷ (least ++ row start (0 ∷ 0 ∷ []) gives Accepted)
-    ∷ (least ++ row start (0 ∷ 0 ∷ []) ++ row start (7 ∷ 7 ∷ []) gives Misplaced 3)
-    ∷ (least ++ row start (0 ∷ 0 ∷ []) ++ row exit (0 ∷ 0 ∷ []) gives Malformed 3)
+    (textA gives accepted)
+    ∷ (take 20 textA gives refusal 2 2)
+    ∷ ([] gives refusal 3 0)
+    ∷ (10 ∷ [] gives refusal 2 1)
+    ∷ (row start (0 ∷ 0 ∷ []) gives refusal 3 1)
+    ∷ (row size (0 ∷ 1 ∷ 1 ∷ []) gives refusal 4 1)
+    ∷ (row size (1 ∷ 1 ∷ []) gives refusal 2 1)
+    ∷ (least gives refusal 3 0)
+    ∷ (least ++ least gives refusal 3 2)
+    ∷ (least ++ row start (0 ∷ 1 ∷ []) gives refusal 4 2)
+    ∷ (least ++ row start (0 ∷ 0 ∷ []) gives accepted)
+    ∷ (least ++ row start (0 ∷ 0 ∷ []) ++ row start (7 ∷ 7 ∷ []) gives refusal 3 3)
+    ∷ (least ++ row start (0 ∷ 0 ∷ []) ++ row exit (0 ∷ 0 ∷ []) gives refusal 2 3)
     ∷ []

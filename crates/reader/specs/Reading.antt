@@ -1,35 +1,23 @@
--- How a reading ends, with the document's number and values for each case, and the empty record of a refused reading. Assumes nothing.
+-- How a reading ends, with the document's number and values for each case, and the bytes that it leaves. Assumes nothing.
 use mathlib.Core.Bool.{false}
 use mathlib.Core.List.{List, [], _∷_}
+use mathlib.Core.Path.{_≡_}
 use Prim.Native.Nat.{ℕ}
-use lib.Dec.{eqb}
 use lib.ListN.{replicate}
-use Rattle.text.specs.Split.{pick}
+use Rattle.product.specs.Answer.{Answer, answered, refused}
 use Rattle.model.specs.declared.Model.{Model}
+use Rattle.lent.specs.Lending.{packed}
 use Rattle.reader.specs.declared.Reading.{Reading}
 use Rattle.reader.specs.declared.Reading.the-variants.{Accepted, TooLong, Malformed, Misplaced, OutOfRange, TooMany}
-use Rattle.reader.specs.declared.ModelRead.{ModelRead}
 
--- the number given back, 0 for an accepted reading, and what is returned with it: a line
-abbrev pub number : Reading → ℕ
-number Accepted = 0
-number TooLong = 1
-number (Malformed line) = 2
-number (Misplaced line) = 3
-number (OutOfRange line) = 4
-number (TooMany line) = 5
-
-abbrev pub values : Reading → List ℕ
-values Accepted = []
-values TooLong = 0 ∷ []
-values (Malformed line) = line ∷ []
-values (Misplaced line) = line ∷ []
-values (OutOfRange line) = line ∷ []
-values (TooMany line) = line ∷ []
-
--- the refusals of a line by their number, 2 to 5
-abbrev pub numbered : ℕ → ℕ → Reading
-numbered n line = pick (eqb n 2) (Malformed line) (pick (eqb n 3) (Misplaced line) (pick (eqb n 4) (OutOfRange line) (TooMany line)))
+-- what each case of the code's answer means, where m is the model that is read
+abbrev pub meaning : Reading → (m : Model) → Answer Model
+meaning Accepted m = answered m
+meaning TooLong m = refused 1 (0 ∷ [])
+meaning (Malformed line) m = refused 2 (line ∷ [])
+meaning (Misplaced line) m = refused 3 (line ∷ [])
+meaning (OutOfRange line) m = refused 4 (line ∷ [])
+meaning (TooMany line) m = refused 5 (line ∷ [])
 
 -- the empty record: all zeros, nothing final, nothing shown
 unfoldable pub empty : Model
@@ -47,5 +35,12 @@ empty = record {
   moverows = replicate 384 0;
 }
 
-abbrev pub refused : Reading → ModelRead
-refused reading = record { reading = reading; model = empty }
+-- the record that is left: of a text that is refused the empty one
+abbrev pub modelOf : Answer Model → Model
+modelOf (answered m) = m
+modelOf (refused number values) = empty
+
+-- The contract, for a text whose reading is a: the code's answer r, and the lent bytes afterwards.
+pub record Read (a : Answer Model) (r : Reading) (cells : List ℕ) : Type 0 where
+  pub answer : meaning r (modelOf a) ≡ a
+  pub bytes : cells ≡ packed (modelOf a)

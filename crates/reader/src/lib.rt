@@ -1,14 +1,19 @@
-// Reads a model from its text. specs/Text.antt says what is read, and specs/Says.antt what an accepted record holds.
+// Reads a model from its text into the lent bytes. specs/Text.antt says what is read, and specs/Says.antt what an accepted record holds.
 ghost use mathlib.Core.Path.{_≡_};
+ghost use mathlib.Core.List.{[], _∷_};
 ghost use Prim.Native.Nat.{ℕ, _≤_};
-ghost use lib.ListN.{length};
+ghost use lib.ListN.{length, replicate};
+ghost use lib.Seq.{sets};
+ghost use Rattle.product.specs.Answer.{refused};
 ghost use Rattle.text.specs.Split.{first, later};
-ghost use Rattle.reader.specs.Reading.{empty, numbered, refused};
-ghost use Rattle.draft.specs.Draft.{whole};
-ghost use Rattle.reader.specs.Text.{noOutline, fresh, finished, readFrom, readModel};
+ghost use Rattle.model.specs.declared.Model.{Model};
+ghost use Rattle.draft.specs.Draft.{Draft};
+ghost use Rattle.draft.specs.Written.{Stands};
+ghost use Rattle.reader.specs.Reading.{meaning, Read};
+ghost use Rattle.reader.specs.Text.{noOutline, lastOf, fresh, finished, readFrom, readModel};
 use draft::Outline;
+use lent::Lent;
 use limits::Counts;
-use model::Model;
 
 // The longest text that is read.
 const LONGEST: usize = 16384;
@@ -23,44 +28,25 @@ pub enum Reading {
     TooMany(usize),
 }
 
-// The model of an accepted reading; of any other the empty record.
-pub struct ModelRead {
-    pub reading: Reading,
-    pub model: Model,
-}
-
-fn no_model() -> Model
-    ensures { λ r. ⌜ r ≡ empty ⌝ }
+// The bytes of the empty record.
+fn clear(m: &mut Lent)
+    ensures { λ _. ⌜ now (m .exit) ≡ replicate 1936 0 ⌝ }
 {
-    let finals = [false; 8];
-    let shows = [false; 512];
-    let rulerows = [0u8; 1024];
-    let moverows = [0u8; 384];
-    Model {
-        symbols: 0,
-        states: 0,
-        events: 0,
-        startstate: 0,
-        startsymbol: 0,
-        finals,
-        shows,
-        rules: 0,
-        rulerows,
-        moves: 0,
-        moverows,
-    }
+    *m = [0u8; 1936];
 }
 
-fn refused_with(reading: Reading) -> ModelRead
-    ensures { λ r. ⌜ r ≡ refused reading ⌝ }
+// Of a text that is refused nothing is left.
+fn refuse(m: &mut Lent, reading: Reading) -> Reading
+    ensures { λ r. ⌜ (r ≡ reading) × (now (m .exit) ≡ replicate 1936 0) ⌝ }
 {
-    let model = no_model();
-    ModelRead { reading, model }
+    clear(m);
+    reading
 }
 
-// The refusals of a line by their number.
+// The refusals of a line by their number, 2 to 5.
 fn numbered(n: u8, line: usize) -> Reading
-    ensures { λ r. ⌜ r ≡ numbered n line ⌝ }
+    requires { ⌜ (2 ≤ n) × (n ≤ 5) ⌝ }
+    ensures { λ r. ⌜ ((m : Model) → meaning r m ≡ refused n (line ∷ [])) ⌝ }
 {
     if n == 2 {
         return Reading::Malformed(line);
@@ -92,48 +78,40 @@ fn no_outline() -> Outline
     }
 }
 
-// After the last line.
-fn finish(
-    o: Outline,
-    finals: [bool; 8],
-    shows: [bool; 512],
-    rulerows: [u8; 1024],
-    moverows: [u8; 384],
-) -> ModelRead
-    ensures { λ r. ⌜ r ≡ finished (whole o finals shows rulerows moverows) ⌝ }
+// The last bytes, which say what the outline does.
+fn put_outline(m: &mut Lent, o: Outline)
+    ensures { λ _. ⌜ now (m .exit) ≡ sets (now (m .entry)) 1928 (lastOf o) ⌝ }
+{
+    let counts = o.counts;
+    let rules = counts.rules;
+    m[1928] = counts.symbols;
+    m[1929] = counts.states;
+    m[1930] = counts.events;
+    m[1931] = o.startstate;
+    m[1932] = o.startsymbol;
+    m[1933] = (rules % 256) as u8;
+    m[1934] = (rules / 256 % 256) as u8;
+    m[1935] = (counts.moves % 256) as u8;
+}
+
+// After the last line: what was read is a draft d.
+fn finish(m: &mut Lent, o: Outline) -> Reading
+    ensures { λ r. ⌜ ((d : Draft) → Stands (replicate 8 0) o (now (m .entry)) d → Read (finished d) r (now (m .exit))) ⌝ }
 {
     let counts = o.counts;
     if counts.started == 0 {
-        return refused_with(Reading::Misplaced(0));
+        return refuse(m, Reading::Misplaced(0));
     }
-    let model = Model {
-        symbols: counts.symbols,
-        states: counts.states,
-        events: counts.events,
-        startstate: o.startstate,
-        startsymbol: o.startsymbol,
-        finals,
-        shows,
-        rules: counts.rules,
-        rulerows,
-        moves: counts.moves,
-        moverows,
-    };
-    ModelRead {
-        reading: Reading::Accepted,
-        model,
-    }
+    put_outline(m, o);
+    Reading::Accepted
 }
 
-// Line by line: what stands after the last line feed is no line, and must be empty.
-fn read_lines(text: &[u8]) -> ModelRead
+// Line by line: what stands after the last line feed is no line, and must be empty. The bytes are those of the empty record.
+fn read_lines(text: &[u8], m: &mut Lent) -> Reading
     requires { ⌜ length (now text) ≤ 16384 ⌝ }
-    ensures { λ r. ⌜ r ≡ readFrom 1 fresh (first 10 (now (text .entry))) (later 10 (now (text .entry))) ⌝ }
+    requires { ⌜ now m ≡ replicate 1936 0 ⌝ }
+    ensures { λ r. ⌜ Read (readFrom 1 fresh (first 10 (now (text .entry))) (later 10 (now (text .entry)))) r (now (m .exit)) ⌝ }
 {
-    let mut finals = [false; 8];
-    let mut shows = [false; 512];
-    let mut rulerows = [0u8; 1024];
-    let mut moverows = [0u8; 384];
     let mut o = no_outline();
     let mut left = text;
     let mut n: usize = 1;
@@ -141,35 +119,29 @@ fn read_lines(text: &[u8]) -> ModelRead
         let l = modelline::read_line(left);
         let e = l.end;
         if left.len() <= e {
-            return refused_with(Reading::Malformed(n));
+            return refuse(m, Reading::Malformed(n));
         }
         let said = l.line;
-        let t = draft::take_line(
-            &mut finals,
-            &mut shows,
-            &mut rulerows,
-            &mut moverows,
-            o,
-            said,
-        );
+        let t = draft::take_line(m, o, said);
         let refusal = t.refusal;
         if refusal != 0 {
-            return refused_with(numbered(refusal, n));
+            return refuse(m, numbered(refusal, n));
         }
         o = t.outline;
         n += 1;
         let b = e + 1;
         left = &left[b..];
     }
-    finish(o, finals, shows, rulerows, moverows)
+    finish(m, o)
 }
 
-// The model of a text.
-pub fn read_model(text: &[u8]) -> ModelRead
-    ensures { λ r. ⌜ r ≡ readModel (now (text .entry)) ⌝ }
+// Reads the model of a text. A text that is refused leaves the bytes of the empty record.
+pub fn read_model(text: &[u8], m: &mut Lent) -> Reading
+    ensures { λ r. ⌜ Read (readModel (now (text .entry))) r (now (m .exit)) ⌝ }
 {
+    clear(m);
     if LONGEST < text.len() {
-        return refused_with(Reading::TooLong);
+        return Reading::TooLong;
     }
-    read_lines(text)
+    read_lines(text, m)
 }

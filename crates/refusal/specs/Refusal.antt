@@ -3,8 +3,11 @@ use mathlib.Core.Bool.{Bool, true, false}
 use mathlib.Core.List.{List, [], _∷_}
 use mathlib.Core.Path.{_≡_}
 use Prim.Native.Nat.{ℕ}
-use Rattle.reader.specs.declared.Reading.{Reading}
-use Rattle.reader.specs.declared.Reading.the-variants.{Accepted, TooLong, Malformed, Misplaced, OutOfRange, TooMany}
+use lib.ListN.{getD}
+use Rattle.product.specs.Answer.{Answer, answered, refused}
+use Rattle.model.specs.declared.Model.{Model}
+use Rattle.lent.specs.Lending.{packed}
+use Rattle.reader.specs.Reading.{modelOf}
 use Rattle.reader.specs.Text.{readModel}
 use Rattle.print.specs.Bytes.{lineBytes}
 use Rattle.text.specs.Put.{Put}
@@ -18,34 +21,26 @@ refusedWord = 114 ∷ 101 ∷ 102 ∷ 117 ∷ 115 ∷ 101 ∷ 100 ∷ []
 abbrev pub refusedBytes : (number line : ℕ) → List ℕ
 refusedBytes number line = lineBytes refusedWord (number ∷ line ∷ [])
 
--- by the reading: what is given where it is accepted, and else its refusal
-abbrev pub unlessRefused : Reading → (accepted : List ℕ) → List ℕ
-unlessRefused Accepted accepted = accepted
-unlessRefused TooLong accepted = refusedBytes 1 0
-unlessRefused (Malformed line) accepted = refusedBytes 2 line
-unlessRefused (Misplaced line) accepted = refusedBytes 3 line
-unlessRefused (OutOfRange line) accepted = refusedBytes 4 line
-unlessRefused (TooMany line) accepted = refusedBytes 5 line
+-- what is given for an accepted model; and else the refusal, by its number and its values
+abbrev pub unlessRefused : Answer Model → (Model → List ℕ) → List ℕ
+unlessRefused (answered m) output = output m
+unlessRefused (refused number values) output = lineBytes refusedWord (number ∷ values)
 
-abbrev pub isAccepted : Reading → Bool
-isAccepted Accepted = true
-isAccepted TooLong = false
-isAccepted (Malformed line) = false
-isAccepted (Misplaced line) = false
-isAccepted (OutOfRange line) = false
-isAccepted (TooMany line) = false
+-- the same where nothing is printed for an accepted one
+abbrev pub refusalBytes : Answer Model → List ℕ
+refusalBytes a = unlessRefused a (λ m. [])
 
--- the line of a refusal
-abbrev pub lineIn : Reading → ℕ
-lineIn Accepted = 0
-lineIn TooLong = 0
-lineIn (Malformed line) = line
-lineIn (Misplaced line) = line
-lineIn (OutOfRange line) = line
-lineIn (TooMany line) = line
+abbrev pub isAnswered : Answer Model → Bool
+isAnswered (answered m) = true
+isAnswered (refused number values) = false
 
--- the reading and the model of a text, and its refusal put from the first byte on; nothing is put where it is accepted
-pub record Seeing (text out after : List ℕ) (seen : Seen) : Type 0 where
-  pub accepts : seen .accepted ≡ isAccepted (readModel text .reading)
-  pub reads : seen .model ≡ readModel text .model
-  pub puts : Put out after 0 (seen .end) (unlessRefused (readModel text .reading) [])
+-- the first value of a refusal, which for a text is its line
+abbrev pub lineIn : Answer Model → ℕ
+lineIn (answered m) = 0
+lineIn (refused number values) = getD values 0 0
+
+-- the reading of a text: whether it is accepted, the bytes of its model, and its refusal put from the first byte on; nothing is put where it is accepted
+pub record Seeing (text out after : List ℕ) (seen : Seen) (cells : List ℕ) : Type 0 where
+  pub accepts : seen .accepted ≡ isAnswered (readModel text)
+  pub reads : cells ≡ packed (modelOf (readModel text))
+  pub puts : Put out after 0 (seen .end) (refusalBytes (readModel text))

@@ -3,15 +3,15 @@ ghost use mathlib.Core.Path.{_≡_};
 ghost use mathlib.Core.List.{[]};
 ghost use Prim.Native.Nat.{ℕ, _<_};
 ghost use Rattle.text.specs.Put.{Put};
-ghost use Rattle.refusal.specs.Refusal.{refusedBytes, isAccepted, lineIn, unlessRefused, Seeing};
-use model::Model;
+ghost use Rattle.reader.specs.Reading.{meaning, empty};
+ghost use Rattle.refusal.specs.Refusal.{refusedBytes, isAnswered, lineIn, refusalBytes, Seeing};
+use lent::Lent;
 use reader::Reading;
 
-// A text that was read: whether it was accepted, the place behind what was put, and the model.
+// A text that was read: whether it was accepted, and the place behind what was put.
 pub struct Seen {
     pub accepted: bool,
     pub end: usize,
-    pub model: Model,
 }
 
 // Puts the line of a refusal.
@@ -24,8 +24,8 @@ pub fn put_refused(out: &mut [u8], number: u16, line: u16) -> usize
 
 // Puts the line of a refused reading, and nothing for one that is accepted.
 fn put_reading(out: &mut [u8], reading: Reading) -> usize
-    requires { ⌜ lineIn reading < 65536 ⌝ }
-    ensures { λ r. ⌜ Put (now (out .entry)) (now (out .exit)) 0 r (unlessRefused reading []) ⌝ }
+    requires { ⌜ lineIn (meaning reading empty) < 65536 ⌝ }
+    ensures { λ r. ⌜ Put (now (out .entry)) (now (out .exit)) 0 r (refusalBytes (meaning reading empty)) ⌝ }
 {
     match reading {
         Reading::Accepted => 0,
@@ -38,7 +38,7 @@ fn put_reading(out: &mut [u8], reading: Reading) -> usize
 }
 
 fn is_accepted(reading: Reading) -> bool
-    ensures { λ r. ⌜ r ≡ isAccepted reading ⌝ }
+    ensures { λ r. ⌜ r ≡ isAnswered (meaning reading empty) ⌝ }
 {
     match reading {
         Reading::Accepted => true,
@@ -50,18 +50,12 @@ fn is_accepted(reading: Reading) -> bool
     }
 }
 
-// Reads a model, and puts the line of the refusal where there is none.
-pub fn read_or_refuse(text: &[u8], out: &mut [u8]) -> Seen
-    ensures { λ r. ⌜ Seeing (now (text .entry)) (now (out .entry)) (now (out .exit)) r ⌝ }
+// Reads a model into the lent bytes, and puts the line of the refusal where there is none.
+pub fn read_or_refuse(text: &[u8], m: &mut Lent, out: &mut [u8]) -> Seen
+    ensures { λ r. ⌜ Seeing (now (text .entry)) (now (out .entry)) (now (out .exit)) r (now (m .exit)) ⌝ }
 {
-    let read = reader::read_model(text);
-    let reading = read.reading;
-    let model = read.model;
+    let reading = reader::read_model(text, m);
     let end = put_reading(out, reading);
     let accepted = is_accepted(reading);
-    Seen {
-        accepted,
-        end,
-        model,
-    }
+    Seen { accepted, end }
 }

@@ -42,8 +42,6 @@ use Rattle.violation.specs.Bytes.{room, shown, firstLine, violationBytes}
 use Rattle.violation.proofs.Lines.{lines-same}
 use Rattle.table.specs.declared.Size.{Size}
 use Rattle.fitting.specs.Fits.{sizeOf, Fits}
-use Rattle.lent.specs.Lending.{held, modelIn}
-use Rattle.lent.proofs.Packed.{lends}
 use Rattle.report.specs.Output.{tracedBytes, verdictBytes, answerBytes, modelOutput}
 use Rattle.report.specs.Told.{Told}
 use Rattle.printing.proofs.Front.{listing-front}
@@ -94,11 +92,6 @@ module _ (m : Model) (v : T (valid m)) {z : Size} (read : z ≡ sizeOf m) where
 
   pub is-read : z .symbols * z .states * (z .states + 1) ≡ bound (productOf m)
   is-read = ap (λ (z : Size). z .symbols * z .states * (z .states + 1)) read ∙ budget-is m v
-
--- a valid record, lent
-module _ (m : Model) (v : T (valid m)) (cells : List ℕ) (lent : modelIn cells ≡ held m) where
-  pub lent-put : {o p : List ℕ} {a b : ℕ} → Put o p a b (modelOutput (modelIn cells)) → Put o p a b (modelOutput m)
-  lent-put = as-put (ap modelOutput (lends m cells v lent))
 
 -- a verdict is no refusal but 9 and 10
 module _ (m : Model) where

@@ -36,4 +36,4 @@ modelOutput m = answerBytes m (answer (productOf m) (bound (productOf m)))
 
 -- all that is printed: the refusal of the text, or what its model prints
 abbrev pub checkOutput : List ℕ → List ℕ
-checkOutput text = unlessRefused (readModel text .reading) (modelOutput (readModel text .model))
+checkOutput text = unlessRefused (readModel text) modelOutput

@@ -82,9 +82,9 @@ fn put_model(out: &mut [u8], m: &Lent) -> usize
 pub fn check_text(text: &[u8], out: &mut [u8]) -> usize
     ensures { λ r. ⌜ Put (now (out .entry)) (now (out .exit)) 0 r (checkOutput (now (text .entry))) ⌝ }
 {
-    let seen = refusal::read_or_refuse(text, out);
+    let mut m = lent::blank();
+    let seen = refusal::read_or_refuse(text, &mut m, out);
     if seen.accepted {
-        let m = lent::lend(seen.model);
         return put_model(out, &m);
     }
     seen.end

@@ -8,8 +8,7 @@ use lib.ListN.{length, replicate}
 use lib.Dec.{T}
 use Rattle.model.specs.declared.Model.{Model}
 use Rattle.model.specs.Valid.{valid}
-use Rattle.lent.specs.Lending.{held, modelIn}
-use Rattle.lent.proofs.Packed.{lends}
+use Rattle.lent.specs.Lending.{modelIn}
 use Rattle.reader.specs.Text.{readModel}
 use Rattle.refusal.specs.declared.Seen.{Seen}
 use Rattle.refusal.specs.Refusal.{unlessRefused, Seeing}
@@ -75,19 +74,12 @@ module _ (m : Model) (text : List ℕ) {hs ts hs′ ts′ : List ℕ} {x : Listi
       y
 
 -- the model is read from one part of the text, and the listing is the other
-module _ (text : List ℕ) {part o p : List ℕ} {s : Seen} (k : part ≡ modelPart text) (x : Seeing part o p s) where
+module _ (text : List ℕ) {part o p cells : List ℕ} {s : Seen} (k : part ≡ modelPart text) (x : Seeing part o p s cells) where
   abbrev output : List ℕ → Model → List ℕ
   output rest m = listingOutput m rest (replicate 256 0) (replicate 2048 0)
 
-  pub seen-put : {rest q : List ℕ} {b : ℕ} → rest ≡ listingOf text → s .accepted ≡ true → Put p q 0 b (output rest (s .model)) → Put o q 0 b (recheckOutput text)
-  seen-put {rest} {q} {b} e t y =
-      as-put (ap₂ (λ part rest. unlessRefused (readModel part .reading) (output rest (readModel part .model))) k e) (accepted-put x t (output rest) y)
+  pub seen-put : {rest q : List ℕ} {b : ℕ} → rest ≡ listingOf text → s .accepted ≡ true → Put p q 0 b (output rest (modelIn cells)) → Put o q 0 b (recheckOutput text)
+  seen-put {rest} {q} {b} e t y = as-put (ap₂ (λ part rest. unlessRefused (readModel part) (output rest)) k e) (accepted-put x t (output rest) y)
 
   pub unseen-put : s .accepted ≡ false → Put o p 0 (s .end) (recheckOutput text)
-  unseen-put t =
-      as-put (ap (λ part. unlessRefused (readModel part .reading) (output (listingOf text) (readModel part .model))) k) (refused-put x t (output (listingOf text) (readModel part .model)))
-
--- a valid record, lent
-module _ (m : Model) (v : T (valid m)) (cells : List ℕ) (lent : modelIn cells ≡ held m) where
-  pub lent-put : (text hs ts : List ℕ) {o p : List ℕ} {a b : ℕ} → Put o p a b (listingOutput (modelIn cells) text hs ts) → Put o p a b (listingOutput m text hs ts)
-  lent-put text hs ts = as-put (ap (λ m. listingOutput m text hs ts) (lends m cells v lent))
+  unseen-put t = as-put (ap (λ part. unlessRefused (readModel part) (output (listingOf text))) k) (refused-put x t (output (listingOf text)))

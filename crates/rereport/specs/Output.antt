@@ -51,4 +51,4 @@ listingOutput m text hs ts = listingBytes (listingRead m text) (recheck m (heads
 
 -- all that is printed: the refusal of the model, or what the listing behind it prints, read into arrays of zeros
 abbrev pub recheckOutput : List ℕ → List ℕ
-recheckOutput text = unlessRefused (readModel (modelPart text) .reading) (listingOutput (readModel (modelPart text) .model) (listingOf text) (replicate 256 0) (replicate 2048 0))
+recheckOutput text = unlessRefused (readModel (modelPart text)) (λ m. listingOutput m (listingOf text) (replicate 256 0) (replicate 2048 0))

@@ -74,9 +74,9 @@ pub fn recheck_text(text: &[u8], out: &mut [u8]) -> usize
     ensures { λ r. ⌜ Put (now (out .entry)) (now (out .exit)) 0 r (recheckOutput (now (text .entry))) ⌝ }
 {
     let at = splitter::listing_at(text);
-    let seen = refusal::read_or_refuse(&text[..at], out);
+    let mut m = lent::blank();
+    let seen = refusal::read_or_refuse(&text[..at], &mut m, out);
     if seen.accepted {
-        let m = lent::lend(seen.model);
         return put_listing(out, &m, &text[at..]);
     }
     seen.end

@@ -1,26 +1,37 @@
 -- `draft::take_line` meets its contract. Assumes nothing.
+use mathlib.Core.Path.{refl}
 use borrow.Author.Tests.{eq-eqb, ne-eqb}
 use Rattle.limits.proofs.Passed.{fits}
-use Rattle.draft.specs.Lines.{takeLine}
+use borrow.Author.Needs.{needs}
 use Rattle.draft.proofs.take_line.Statement.{statement}
 use Rattle.draft.proofs.take_line.Tie as tie
 
 refusal-of-requires : tie.Need-refusal-of-requires
-refusal-of-requires c κs = tt
+refusal-of-requires c κs = search needs
 
 returns : tie.Need-returns
-unfolding takeLine
-returns c = rw (← c .before .refusal-of .ensures, ne-eqb _ _ (c .if1 .taken))
+returns c =
+    let e = ne-eqb _ _ (c .if1 .taken) in
+    record { number = c .before .refusal-of .ensures; outline = rw e; bytes = rw e }
 
 put-requires : tie.Need-put-requires
 put-requires c κs =
-    let t = c .before .before .before .before in
+    let t = c .before in
+    let a = t .before .before .before .args in
+    fits (a .o .counts) (a .l .word) (a .l .numbers) (t .before .refusal-of .ensures) (t .if1 .left)
+
+outline-after-requires : tie.Need-outline-after-requires
+outline-after-requires c κs =
+    let t = c .before .before in
     let a = t .before .before .before .args in
     fits (a .o .counts) (a .l .word) (a .l .numbers) (t .before .refusal-of .ensures) (t .if1 .left)
 
 returns-2 : tie.Need-returns-2
-unfolding takeLine
-returns-2 c = let t = c .before .before .before .before .before in rw (← t .before .refusal-of .ensures, eq-eqb _ _ (t .if1 .left), c .put .ensures)
+returns-2 c =
+    let t = c .before .before .before in
+    let e = eq-eqb _ _ (t .if1 .left) in
+    record { number = t .before .refusal-of .ensures; outline = rw e (c .outline-after .ensures); bytes = rw e (c .before .put .ensures) }
 
 pub take-line-spec : {M : Type 1} → statement M
-take-line-spec = tie.close (tie.spec refusal-of-requires returns put-requires returns-2)
+take-line-spec =
+    tie.close (tie.spec refusal-of-requires returns put-requires outline-after-requires returns-2)

@@ -1,18 +1,24 @@
 -- `reader::finish` meets its contract. Assumes nothing.
-use mathlib.Core.Path.{_∙_}
-use Rattle.draft.specs.Draft.{whole}
-use Rattle.reader.proofs.Turns.{no-start, accepted}
+use Rattle.reader.proofs.Leaves.{no-start, accepted}
+use borrow.Author.Needs.{needs}
 use Rattle.reader.proofs.finish.Statement.{statement}
 use Rattle.reader.proofs.finish.Tie as tie
 
-refused-with-requires : tie.Need-refused-with-requires
-refused-with-requires c κs = tt
+refuse-requires : tie.Need-refuse-requires
+refuse-requires c κs = search needs
 
 returns : tie.Need-returns
-returns c = let a = c .before .before .before .before .args in c .refused-with .ensures ∙ no-start (whole (a .o) (a .finals) (a .shows) (a .rulerows) (a .moverows)) (c .before .if1 .taken)
+returns c = λ d s.
+    let tested = c .before .before in
+    no-start d s (tested .if1 .taken) (c .refuse .ensures .0) (c .refuse .ensures .1)
+
+put-outline-requires : tie.Need-put-outline-requires
+put-outline-requires c κs = search needs
 
 returns-2 : tie.Need-returns-2
-returns-2 c = let a = c .before .before .before .args in accepted (whole (a .o) (a .finals) (a .shows) (a .rulerows) (a .moverows)) (c .if1 .left)
+returns-2 c = λ d s.
+    let tested = c .before .before in
+    accepted d s (tested .if1 .left) (c .put-outline .ensures)
 
 pub finish-spec : {M : Type 1} → statement M
-finish-spec = tie.close (tie.spec refused-with-requires returns returns-2)
+finish-spec = tie.close (tie.spec refuse-requires returns put-outline-requires returns-2)

@@ -52,37 +52,37 @@ put-refused-requires-5 : tie.Need-put-refused-requires-5
 put-refused-requires-5 c κs = search needs
 
 returns : tie.Need-returns
-returns c = case-put _ (c .enum-told .given .1) (nothing-put _)
+returns c = case-put (c .enum-told .given .1) (nothing-put _)
 
 same-length : tie.Need-same-length
 same-length c = put-length (c .before .before .put-refused .ensures)
 
 returns-2 : tie.Need-returns-2
-returns-2 c = case-put _ (c .before .before .before .before .enum-told2 .given .1) (c .before .before .put-refused .ensures)
+returns-2 c = case-put (c .before .before .before .before .enum-told2 .given .1) (c .before .before .put-refused .ensures)
 
 same-length-2 : tie.Need-same-length-2
 same-length-2 c = put-length (c .before .before .put-refused2 .ensures)
 
 returns-3 : tie.Need-returns-3
-returns-3 c = case-put _ (c .before .before .before .before .before .reading .given .1) (c .before .before .put-refused2 .ensures)
+returns-3 c = case-put (c .before .before .before .before .before .reading .given .1) (c .before .before .put-refused2 .ensures)
 
 same-length-3 : tie.Need-same-length-3
 same-length-3 c = put-length (c .before .before .put-refused3 .ensures)
 
 returns-4 : tie.Need-returns-4
-returns-4 c = case-put _ (c .before .before .before .before .before .reading2 .given .1) (c .before .before .put-refused3 .ensures)
+returns-4 c = case-put (c .before .before .before .before .before .reading2 .given .1) (c .before .before .put-refused3 .ensures)
 
 same-length-4 : tie.Need-same-length-4
 same-length-4 c = put-length (c .before .before .put-refused4 .ensures)
 
 returns-5 : tie.Need-returns-5
-returns-5 c = case-put _ (c .before .before .before .before .before .reading3 .given .1) (c .before .before .put-refused4 .ensures)
+returns-5 c = case-put (c .before .before .before .before .before .reading3 .given .1) (c .before .before .put-refused4 .ensures)
 
 same-length-5 : tie.Need-same-length-5
 same-length-5 c = put-length (c .before .before .put-refused5 .ensures)
 
 returns-6 : tie.Need-returns-6
-returns-6 c = case-put _ (c .before .before .before .before .before .reading4 .given .1) (c .before .before .put-refused5 .ensures)
+returns-6 c = case-put (c .before .before .before .before .before .reading4 .given .1) (c .before .before .put-refused5 .ensures)
 
 pub put-reading-spec : {M : Type 1} → statement M
 put-reading-spec =

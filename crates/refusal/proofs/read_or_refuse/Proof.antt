@@ -9,7 +9,9 @@ read-model-requires : tie.Need-read-model-requires
 read-model-requires c κs = search needs
 
 put-reading-requires : tie.Need-put-reading-requires
-put-reading-requires c κs = line-fits (c .before .before .before .before .before .args .text .now) (c .before .before .read-model .ensures)
+put-reading-requires c κs =
+    let read = c .before in
+    line-fits (read .before .before .before .before .args .text .now) (read .read-model .ensures)
 
 is-accepted-requires : tie.Need-is-accepted-requires
 is-accepted-requires c κs = search needs
@@ -18,7 +20,10 @@ same-length : tie.Need-same-length
 same-length c = put-length (c .before .before .before .put-reading .ensures)
 
 returns : tie.Need-returns
-returns c = seeing (c .before .before .before .before .before .before .before .before .before .args .text .now) (c .before .before .before .before .before .before .read-model .ensures) (c .is-accepted .ensures) (c .before .before .before .put-reading .ensures)
+returns c =
+    let put = c .before .before .before in
+    let read = put .before .before in
+    seeing (read .before .before .before .before .args .text .now) (read .read-model .ensures) (c .is-accepted .ensures) (put .put-reading .ensures)
 
 pub read-or-refuse-spec : {M : Type 1} → statement M
 read-or-refuse-spec =

@@ -1,39 +1,38 @@
 -- `rereport::recheck_text` meets its contract. Assumes nothing.
 use mathlib.Core.Path.{_∙_}
 use denote.Ref.{now}
-use borrow.Author.Needs.{needs}
-use Rattle.lent.proofs.Packed.{lent-valid}
 use Rattle.text.proofs.Puts.{put-length}
 use Rattle.splitter.proofs.Place.{place-within, model-front, model-length, listing-rest}
 use Rattle.refusal.proofs.Reading.{model-valid}
-use Rattle.rereport.proofs.Cases.{lent-put, seen-put, unseen-put}
+use Rattle.rereport.proofs.Cases.{seen-put, unseen-put}
+use borrow.Author.Needs.{needs}
 use Rattle.rereport.proofs.recheck_text.Statement.{statement}
 use Rattle.rereport.proofs.recheck_text.Tie as tie
 
 listing-at-requires : tie.Need-listing-at-requires
 listing-at-requires c κs = search needs
 
+blank-requires : tie.Need-blank-requires
+blank-requires c κs = search needs
+
 slice-aggregate-read-or-refuse : tie.Need-slice-aggregate-read-or-refuse
 slice-aggregate-read-or-refuse c =
-    let at = c .before in
+    let at = c .before .before in
     let t = now (at .before .before .before .args .text) in
     model-length t (at .listing-at .ensures)
 
 read-or-refuse-requires : tie.Need-read-or-refuse-requires
 read-or-refuse-requires c κs = search needs
 
-lend-requires : tie.Need-lend-requires
-lend-requires c κs = search needs
-
 sub-put-listing : tie.Need-sub-put-listing
 sub-put-listing c =
-    let at = c .before .before .before .before .before .before .before .before .before in
+    let at = c .before .before .before .before .before .before .before .before .before .before in
     let t = now (at .before .before .before .args .text) in
     place-within t (at .listing-at .ensures)
 
 part-put-listing-start : tie.Need-part-put-listing-start
 part-put-listing-start c =
-    let at = c .before .before .before .before .before .before .before .before .before in
+    let at = c .before .before .before .before .before .before .before .before .before .before in
     let t = now (at .before .before .before .args .text) in
     place-within t (at .listing-at .ensures)
 
@@ -42,29 +41,26 @@ part-put-listing-end c = search needs
 
 put-listing-requires : tie.Need-put-listing-requires
 put-listing-requires c κs =
-    let lent = c .before .before .before in
-    let tested = lent .before in
+    let tested = c .before .before .before in
     let seen = tested .before .before .before in
-    let valid = model-valid (seen .read-or-refuse .ensures) (tested .if1 .taken) in
-    lent-valid _ (lent .lend .result) valid (lent .lend .ensures .means)
+    model-valid (seen .read-or-refuse .ensures) (tested .if1 .taken)
 
 same-length : tie.Need-same-length
 same-length c =
     let put = c .before .before in
-    put-length (put .put-listing .ensures) ∙ put-length (put .before .before .before .before .before .before .before .before .read-or-refuse .ensures .puts)
+    let tested = put .before .before .before .before in
+    let seen = tested .before .before .before in
+    put-length (put .put-listing .ensures) ∙ put-length (seen .read-or-refuse .ensures .puts)
 
 returns : tie.Need-returns
 returns c =
     let put = c .before .before in
-    let lent = put .before .before .before .before in
-    let tested = lent .before in
+    let tested = put .before .before .before .before in
     let seen = tested .before .before .before in
-    let valid = model-valid (seen .read-or-refuse .ensures) (tested .if1 .taken) in
-    let at = seen .before .before .before in
+    let at = seen .before .before .before .before .before in
     let t = now (at .before .before .before .args .text) in
     let e = at .listing-at .ensures in
-    seen-put t (model-front t e) (seen .read-or-refuse .ensures) (listing-rest t e) (tested .if1 .taken)
-    (lent-put _ valid (lent .lend .result) (lent .lend .ensures .means) _ _ _ (put .put-listing .ensures))
+    seen-put t (model-front t e) (seen .read-or-refuse .ensures) (listing-rest t e) (tested .if1 .taken) (put .put-listing .ensures)
 
 same-length-2 : tie.Need-same-length-2
 same-length-2 c = put-length (c .before .before .before .read-or-refuse .ensures .puts)
@@ -72,7 +68,7 @@ same-length-2 c = put-length (c .before .before .before .read-or-refuse .ensures
 returns-2 : tie.Need-returns-2
 returns-2 c =
     let seen = c .before .before .before in
-    let at = seen .before .before .before in
+    let at = seen .before .before .before .before .before in
     let t = now (at .before .before .before .args .text) in
     unseen-put t (model-front t (at .listing-at .ensures)) (seen .read-or-refuse .ensures) (c .if1 .left)
 
@@ -81,9 +77,9 @@ recheck-text-spec =
     tie.close
     (tie.spec
     listing-at-requires
+    blank-requires
     slice-aggregate-read-or-refuse
     read-or-refuse-requires
-    lend-requires
     sub-put-listing
     part-put-listing-start
     part-put-listing-end
