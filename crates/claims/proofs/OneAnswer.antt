@@ -9,6 +9,8 @@ use Rattle.modelline.specs.declared.Line.{Line}
 use Rattle.draft.specs.declared.Outline.{Outline}
 use Rattle.draft.specs.declared.Noted.{Noted}
 use Rattle.draft.specs.Written.{Notes}
+use Rattle.steps.specs.declared.Row.{Row}
+use Rattle.steps.specs.Rows.{RowAt}
 use Rattle.rows.specs.declared.Tally.{Tally}
 use Rattle.rows.specs.declared.End.{End}
 use Rattle.rows.specs.State.{Ended}
@@ -51,6 +53,17 @@ seeing text out r r′ x x′ a b = (
   ap₂ (λ (after cells : List ℕ). (after, cells)) (a .puts .cells ∙ sym (b .puts .cells)) (a .reads ∙ sym (b .reads)),
 )
 
+-- a rule's numbers
+row-one : {lent : List ℕ} {r : ℕ} → One (λ row. RowAt lent r row)
+row-one row row′ a b =
+    let k : row .kind ≡ row′ .kind = a .kind-is ∙ sym (b .kind-is) in
+    let c : row .class ≡ row′ .class = a .class-is ∙ sym (b .class-is) in
+    let o : row .over ≡ row′ .over = a .over-is ∙ sym (b .over-is) in
+    let u : row .under ≡ row′ .under = a .under-is ∙ sym (b .under-is) in
+    ap (λ (k : ℕ). record { kind = k; class = row .class; over = row .over; under = row .under }) k
+    ∙ ap (λ (c : ℕ). record { kind = row′ .kind; class = c; over = row .over; under = row .under }) c
+    ∙ ap₂ (λ (o u : ℕ). record { kind = row′ .kind; class = row′ .class; over = o; under = u }) o u
+
 pub each-answer : OneAnswer
 each-answer = record {
   find = λ s c. equal _;
@@ -80,6 +93,7 @@ each-answer = record {
   class-steps = λ lent. equal _;
   class-of = λ lent r c c′ e e′. e .0 ∙ sym (e′ .0);
   symbol-of = λ c g g′ e e′. e .0 ∙ sym (e′ .0);
+  row-at = λ lent r. row-one;
   states-after = λ lent tg r from. equal _;
   spells = λ s w. equal _;
   read-from = λ s b. equal _;

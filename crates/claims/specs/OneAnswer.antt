@@ -24,6 +24,7 @@ use Rattle.model.specs.Model.{move}
 use Rattle.model.specs.Valid.{valid}
 use Rattle.lent.specs.Lending.{shapeIn, modelIn, productIn, nextBy, InByte}
 use Rattle.bits.specs.Matrix.{multiplied, image}
+use Rattle.steps.specs.Rows.{RowAt}
 use Rattle.steps.specs.Steps.{classOf, symbolOf, classSteps, statesAfter}
 use Rattle.line.specs.Line as line
 use Rattle.modelline.specs.declared.Line.{Line}
@@ -94,6 +95,7 @@ pub record OneAnswer : Type 0 where
   pub class-steps : (lent : List ℕ) → One (λ r. r ≡ classSteps (modelIn lent))
   pub class-of : (lent : List ℕ) (r : ℕ) → One (λ c. (c ≡ classOf (modelIn lent) r) × (c < 256))
   pub symbol-of : (c : ℕ) → One (λ g. (g ≡ symbolOf c) × (g < 32))
+  pub row-at : (lent : List ℕ) (r : ℕ) → One (λ row. RowAt lent r row)
   pub states-after : (lent tg : List ℕ) (r from : ℕ) → One (λ x. x ≡ statesAfter (modelIn lent) tg r from)
   -- line, modelline and listingline
   pub spells : (s w : List ℕ) → One (λ r. r ≡ line.spells s w)

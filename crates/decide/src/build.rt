@@ -10,7 +10,7 @@ ghost use Rattle.decide.specs.Build.{RulePut, RulesSorted, First, GoalOf
 ghost use Rattle.decide.specs.Gather.{Empty};
 use crate::Goal;
 use crate::Next;
-use crate::rows::row_at;
+use steps::row_at;
 use crate::sets::add;
 use crate::sets::collect;
 use crate::sets::put;

@@ -34,7 +34,6 @@ struct Next {
     wh: [u64; 4],
 }
 
-mod rows; // the rules by their numbers
 mod sets; // sets of rules and of classes
 mod stamps; // the ranks of new facts
 mod triples; // a round of the triples
