@@ -4,6 +4,7 @@ pub mod Runs
 pub mod Facts
 pub mod Rounds
 pub mod Why
+pub mod Answer
 pub mod Verdict
 pub mod Table
 pub mod Trace
