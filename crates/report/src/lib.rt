@@ -45,8 +45,18 @@ fn put_told(
     ensures { λ r. ⌜ Put (now (out .entry)) (now (out .exit)) 0 r (modelOutput (modelIn (now (m .entry)))) ⌝ }
 {
     match told {
-        Traced::Found(n, count) => violation::put_violation(out, m, true, n, steps, count),
-        Traced::Cut(n, count) => violation::put_violation(out, m, false, n, steps, count),
+        Traced::Found {
+            rounds,
+            steps: count,
+        } => violation::put_violation(out, m, true, rounds, steps, count),
+        Traced::Cut { rounds, room } => violation::put_violation(
+            out,
+            m,
+            false,
+            rounds,
+            steps,
+            room,
+        ),
         Traced::Safe(n) => put_safe(out, m, n, heads, triples),
         Traced::Invalid => 0,
         Traced::Short => 0,
