@@ -16,6 +16,7 @@ use lent::Lent;
 use printing::Written;
 use trace::Traced;
 use violation::ROOM;
+use violation::put_violation;
 
 // Puts the listing of a safe table. The record is valid and the arrays are long enough, so that it is never refused.
 fn put_safe(out: &mut [u8], m: &Lent, rounds: u16, heads: &[u16], triples: &[u16]) -> usize
@@ -45,18 +46,8 @@ fn put_told(
     ensures { λ r. ⌜ Put (now (out .entry)) (now (out .exit)) 0 r (modelOutput (modelIn (now (m .entry)))) ⌝ }
 {
     match told {
-        Traced::Found {
-            rounds,
-            steps: count,
-        } => violation::put_violation(out, m, true, rounds, steps, count),
-        Traced::Cut { rounds, room } => violation::put_violation(
-            out,
-            m,
-            false,
-            rounds,
-            steps,
-            room,
-        ),
+        Traced::Found { rounds, steps: n } => put_violation(out, m, true, rounds, steps, n),
+        Traced::Cut { rounds, room } => put_violation(out, m, false, rounds, steps, room),
         Traced::Safe(n) => put_safe(out, m, n, heads, triples),
         Traced::Invalid => 0,
         Traced::Short => 0,
