@@ -15,7 +15,6 @@ use Rattle.product.specs.Replay.{replay, replayAnswer}
 use Rattle.product.specs.Check.{checked, checkAnswer}
 use Rattle.model.specs.declared.Model.{Model}
 use Rattle.model.specs.Model.{productOf}
-use Rattle.model.specs.Valid.{valid}
 
 -- a verdict with the stored numbers of its trace, or an acceptance
 pub data Outcome : Type 0 where

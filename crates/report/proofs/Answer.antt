@@ -17,7 +17,6 @@ use Rattle.product.specs.Answer.{Answer, answered, refused}
 use Rattle.product.specs.Product.{Step, stored}
 use Rattle.product.specs.Verdict.{Verdict, violation, safe, answer, bound, ran}
 use Rattle.product.specs.Table.{ranks, left}
-use Rattle.product.specs.Table as product
 use Rattle.product.specs.Trace.{traceOf}
 use Rattle.product.proofs.Lists.{length-each, length-upTo}
 use Rattle.product.proofs.Demands.{demands}
@@ -30,7 +29,7 @@ use Rattle.model.proofs.Valid.{valid-sizes, product-in}
 use Rattle.fitting.proofs.Tested.{ample, tested-well}
 use Rattle.decide.specs.Decided.{within, decision, headsLeft, triplesLeft}
 use Rattle.trace.specs.declared.Traced.{Traced}
-use Rattle.trace.specs.declared.Traced.the-variants.{Found, Invalid, Short, Safe, Cut}
+use Rattle.trace.specs.declared.Traced.the-variants.{Found, Safe, Cut}
 use Rattle.trace.specs.Outcome.{Trace, traced, meaning, tracedBy, stepsBy, Outcome}
 use Rattle.text.specs.Put.{placeIn, Put}
 use Rattle.text.proofs.Puts.{as-put}

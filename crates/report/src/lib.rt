@@ -1,11 +1,9 @@
 // What `pdcheck` prints, from the text that it reads: the refusal of the text, the trace of a violation, or the listing of a safe table.
 ghost use mathlib.Core.Path.{_≡_};
-ghost use Prim.Native.Nat.{ℕ};
 ghost use lib.Dec.{T};
 ghost use lib.ListN.{length};
 ghost use Rattle.lent.specs.Lending.{modelIn, productIn};
 ghost use Rattle.product.specs.Verdict.{bound};
-ghost use Rattle.model.specs.Model.{productOf};
 ghost use Rattle.model.specs.Valid.{valid};
 ghost use Rattle.fitting.specs.Fits.{Fits};
 ghost use Rattle.text.specs.Put.{Put};

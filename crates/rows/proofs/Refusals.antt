@@ -11,7 +11,7 @@ use Rattle.numbers.specs.Number.{nth}
 use Rattle.numbers.specs.declared.Numbers.{Numbers}
 use Rattle.product.specs.Table.{absent}
 use Rattle.table.specs.declared.Size.{Size}
-use Rattle.ranking.specs.Rank.{largest, faultOf, counted, headFault, headPut, tripleFault, triplePut}
+use Rattle.ranking.specs.Rank.{largest, faultOf, counted, headPut, triplePut}
 use Rattle.listingline.specs.Line.{lineOf}
 use Rattle.listingline.specs.declared.Line.{Line}
 use Rattle.listingline.specs.declared.Word.{Word}

@@ -16,7 +16,6 @@ use explain::Counts;
 use explain::Found;
 use lent::Lent;
 use model::Shape;
-use table::Size;
 
 // The answer of the call: the trace was found, with its rounds and steps; or a refusal, whose number specs/Outcome.antt says.
 pub enum Traced {
@@ -86,10 +85,7 @@ fn write_trace<'a>(
     requires { ⌜ Ranked (ofLent shape (now m)) n (now heads) (now triples) ⌝ }
     ensures { λ r. ⌜ Written (ofLent shape (now (m .entry))) n (now (room .entry)) r (now (room .exit)) ⌝ }
 {
-    let size = Size {
-        symbols: shape.symbols,
-        states: shape.states,
-    };
+    let size = fitting::size_of(m);
     let q = shape.startstate as usize;
     let g = shape.startsymbol as usize;
     let f = culprit::culprit(m, heads, triples, size, q, g);
