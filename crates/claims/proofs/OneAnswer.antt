@@ -77,7 +77,6 @@ each-answer = record {
   clear = λ cells n. equal _;
   head-count = λ z. equal _;
   triple-count = λ z. equal _;
-  long-enough = λ z heads triples. equal _;
   culprit = λ lent z heads triples s a. equal _;
   is-clean = λ lent z heads triples s a. equal _;
   blank = equal _;

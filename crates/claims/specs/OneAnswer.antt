@@ -12,7 +12,7 @@ use Rattle.numbers.specs.declared.Numbers.{Numbers}
 use Rattle.numbers.specs.Field.{fieldsOf}
 use Rattle.numbers.specs.Digits.{digitsOf}
 use Rattle.table.specs.declared.Size.{Size}
-use Rattle.table.specs.Cells.{headCount, tripleCount, longEnough, headIn, tripleIn, putHead, putTriple, cleared, view}
+use Rattle.table.specs.Cells.{headCount, tripleCount, headIn, tripleIn, putHead, putTriple, cleared, view}
 use Rattle.culprit.specs.declared.Goal.{Goal}
 use Rattle.culprit.specs.Culprit.{goalAs, culpritIn, cleanIn}
 use Rattle.model.specs.declared.Model.{Model}
@@ -75,7 +75,6 @@ pub record OneAnswer : Type 0 where
   pub clear : (cells : List ℕ) (n : ℕ) → One (λ after. after ≡ cleared n cells)
   pub head-count : (z : Size) → One (λ n. n ≡ headCount (z .symbols) (z .states))
   pub triple-count : (z : Size) → One (λ n. n ≡ tripleCount (z .symbols) (z .states))
-  pub long-enough : (z : Size) (heads triples : List ℕ) → One (λ b. b ≡ longEnough (z .symbols) (z .states) (length heads) (length triples))
   -- culprit
   pub culprit : (lent : List ℕ) (z : Size) (heads triples : List ℕ) (s a : ℕ) → One (λ f. f ≡ goalAs (culpritIn (productIn lent .final) (z .symbols) (z .states) heads triples s a))
   pub is-clean : (lent : List ℕ) (z : Size) (heads triples : List ℕ) (s a : ℕ) → One (λ b. b ≡ cleanIn (productIn lent .final) (z .symbols) (z .states) heads triples s a)

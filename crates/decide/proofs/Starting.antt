@@ -24,6 +24,7 @@ use Rattle.table.specs.Cells.{view, store, putHead, cleared, headsOf, triplesOf
 use Rattle.table.proofs.Cells.{length-cleared}
 use Rattle.table.proofs.Store.{store-head, past-head, length-head}
 use Rattle.table.proofs.LaidOut.{heads-laid, triples-laid, cleared-view, cleared-past-end}
+use Rattle.fitting.specs.Fits.{sizeOf}
 use Rattle.model.specs.declared.Model.{Model}
 use Rattle.model.specs.Model.{rule, productOf}
 use Rattle.model.specs.Valid.{valid}
@@ -59,7 +60,7 @@ one-low g l x t = subst (λ n. n < 32) (eqb→eq g x (subst T (one-bit g l x) t)
 
 module _ (m : Model) (v : T (valid m)) {rs : List ℕ} (same : LiesIn rs m) where
   abbrev z : Size
-  z = record { symbols = m .symbols; states = m .states }
+  z = sizeOf m
 
   pub q-in : m .startstate < 8
   q-in = omega (arith, start-state-in m v, valid-sizes m v .states)

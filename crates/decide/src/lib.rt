@@ -72,16 +72,13 @@ fn run(shape: Shape, m: &Lent, budget: u32, heads: &mut [u16], triples: &mut [u1
 pub fn decide(m: &Lent, budget: u32, heads: &mut [u16], triples: &mut [u16]) -> Decision
     ensures { λ r. ⌜ Decided (modelIn (now (m .entry))) budget (now (heads .entry)) (now (triples .entry)) r (now (heads .exit)) (now (triples .exit)) ⌝ }
 {
-    if !lent::is_valid(m) {
+    let fit = fitting::measure(m, heads.len(), triples.len());
+    if fit.refusal == 6 {
         return Decision::Invalid;
     }
-    let shape = lent::shape(m);
-    let size = Size {
-        symbols: shape.symbols,
-        states: shape.states,
-    };
-    if !table::long_enough(heads, triples, size) {
+    if fit.refusal == 7 {
         return Decision::Short;
     }
+    let shape = lent::shape(m);
     run(shape, m, budget, heads, triples)
 }

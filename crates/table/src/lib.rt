@@ -2,7 +2,7 @@
 ghost use mathlib.Core.Path.{_≡_};
 ghost use Prim.Native.Nat.{_≤_};
 ghost use lib.ListN.{length};
-ghost use Rattle.table.specs.Cells.{headCount, tripleCount, longEnough, headIn, tripleIn, putHead, putTriple, cleared};
+ghost use Rattle.table.specs.Cells.{headCount, tripleCount, headIn, tripleIn, putHead, putTriple, cleared};
 ghost use Rattle.table.specs.Places.{headPlace, triplePlace, readAt, putAt};
 
 // The number that marks a fact that isn't held.
@@ -32,13 +32,6 @@ pub fn triple_count(size: Size) -> usize
     ensures { λ n. ⌜ n ≡ tripleCount (size .symbols) (size .states) ⌝ }
 {
     head_count(size) * (size.states as usize)
-}
-
-// The arrays have a cell for each head and each triple; if not, it is refusal 7.
-pub fn long_enough<'a>(heads: &'a [u16], triples: &'a [u16], size: Size) -> bool
-    ensures { λ b. ⌜ b ≡ longEnough (size .symbols) (size .states) (length (now (heads .entry))) (length (now (triples .entry))) ⌝ }
-{
-    head_count(size) <= heads.len() && triple_count(size) <= triples.len()
 }
 
 fn head_place(size: Size, q: usize, g: usize) -> Place

@@ -16,16 +16,15 @@ use explain::Counts;
 use explain::Found;
 use lent::Lent;
 use model::Shape;
-use table::Size;
 
 // The answer of the call: the trace was found, with its rounds and steps; or a refusal, whose number specs/Outcome.antt says.
 pub enum Traced {
-    Found(u16, usize),
+    Found { rounds: u16, steps: usize },
     Invalid,
     Short,
     Spent(u32),
     Safe(u16),
-    Cut(u16, usize),
+    Cut { rounds: u16, room: usize },
 }
 
 // Writes a step, if there is room, and gives the next place: one past the end of the room where it was cut.
@@ -52,7 +51,8 @@ fn unfold_fact<'a>(
     at: usize,
 ) -> usize
     requires { ⌜ Storable (n .rules) (n .moves) at (length (now room)) ⌝ }
-    ensures { λ r. ⌜ Unfolded (view (n .size .symbols) (n .size .states) (now (heads .entry)) (now (triples .entry))) (whyIn (productIn (now (m .entry))) (n .size .symbols) (n .size .states) (now (heads .entry)) (now (triples .entry)) (n .rules) (n .moves)) f (now (room .entry)) at r (now (room .exit)) ⌝ }
+    ensures { λ r. ⌜ Unfolded (view (n .size .symbols) (n .size .states) (now (heads .entry)) (now (triples .entry)))
+        (whyIn (productIn (now (m .entry))) (n .size .symbols) (n .size .states) (now (heads .entry)) (now (triples .entry)) (n .rules) (n .moves)) f (now (room .entry)) at r (now (room .exit)) ⌝ }
 {
     if room.len() < at {
         return at;
@@ -85,10 +85,7 @@ fn write_trace<'a>(
     requires { ⌜ Ranked (ofLent shape (now m)) n (now heads) (now triples) ⌝ }
     ensures { λ r. ⌜ Written (ofLent shape (now (m .entry))) n (now (room .entry)) r (now (room .exit)) ⌝ }
 {
-    let size = Size {
-        symbols: shape.symbols,
-        states: shape.states,
-    };
+    let size = fitting::size_of(m);
     let q = shape.startstate as usize;
     let g = shape.startsymbol as usize;
     let f = culprit::culprit(m, heads, triples, size, q, g);
@@ -99,9 +96,15 @@ fn write_trace<'a>(
     };
     let at = unfold_fact(room, m, heads, triples, counts, f, 0);
     if room.len() < at {
-        return Traced::Cut(n, room.len());
+        return Traced::Cut {
+            rounds: n,
+            room: room.len(),
+        };
     }
-    Traced::Found(n, at)
+    Traced::Found {
+        rounds: n,
+        steps: at,
+    }
 }
 
 // Decides a model within a budget of rounds, and then writes the trace of a violation into the room, as far as it fits. A room of 0 cells is a room.
