@@ -40,8 +40,8 @@ cast-q c = search needs
 cast-g : tie.Need-cast-g
 cast-g c = search needs
 
-has-head-requires : tie.Need-has-head-requires
-has-head-requires c κs = search needs
+has-requires : tie.Need-has-requires
+has-requires c κs = search needs
 
 returns-3 : tie.Need-returns-3
 returns-3 c =
@@ -51,7 +51,7 @@ returns-3 c =
     let checked = read .before .before in
     let a = checked .before .before .before .args in
     has-no-start (modelIn (now (a .m))) (now (a .heads)) (now (a .triples)) (checked .is-valid .ensures) (read .before .if1 .left) (long-read (now (a .m)) (now (a .heads)) (now (a .triples)) (read .shape .ensures) (long .long-enough .ensures)) (start .before .before .before .if2 .left)
-    (start-read (now (a .m)) (now (a .heads)) (now (a .triples)) (read .shape .ensures) (start .has-head .ensures)) (c .if3 .taken)
+    (start-read (now (a .m)) (now (a .heads)) (now (a .triples)) (read .shape .ensures) (start .has .ensures)) (c .if3 .taken)
 
 is-clean-requires : tie.Need-is-clean-requires
 is-clean-requires c κs = search needs
@@ -65,7 +65,7 @@ returns-4 c =
     let checked = read .before .before in
     let a = checked .before .before .before .args in
     has-violating (modelIn (now (a .m))) (now (a .heads)) (now (a .triples)) (checked .is-valid .ensures) (read .before .if1 .left) (long-read (now (a .m)) (now (a .heads)) (now (a .triples)) (read .shape .ensures) (long .long-enough .ensures)) (start .before .before .before .if2 .left)
-    (start-read (now (a .m)) (now (a .heads)) (now (a .triples)) (read .shape .ensures) (start .has-head .ensures)) (cleaned .before .if3 .left) (clean-read (now (a .m)) (now (a .heads)) (now (a .triples)) (read .shape .ensures) (cleaned .is-clean .ensures)) (c .if4 .taken)
+    (start-read (now (a .m)) (now (a .heads)) (now (a .triples)) (read .shape .ensures) (start .has .ensures)) (cleaned .before .if3 .left) (clean-read (now (a .m)) (now (a .heads)) (now (a .triples)) (read .shape .ensures) (cleaned .is-clean .ensures)) (c .if4 .taken)
 
 open-step-requires : tie.Need-open-step-requires
 open-step-requires c κs =
@@ -96,7 +96,7 @@ returns-5 c =
     let checked = read .before .before in
     let a = checked .before .before .before .args in
     is-open (modelIn (now (a .m))) (now (a .heads)) (now (a .triples)) (checked .is-valid .ensures) (read .before .if1 .left) (long-read (now (a .m)) (now (a .heads)) (now (a .triples)) (read .shape .ensures) (long .long-enough .ensures)) (start .before .before .before .if2 .left)
-    (start-read (now (a .m)) (now (a .heads)) (now (a .triples)) (read .shape .ensures) (start .has-head .ensures)) (cleaned .before .if3 .left) (clean-read (now (a .m)) (now (a .heads)) (now (a .triples)) (read .shape .ensures) (cleaned .is-clean .ensures)) (sought .before .if4 .left)
+    (start-read (now (a .m)) (now (a .heads)) (now (a .triples)) (read .shape .ensures) (start .has .ensures)) (cleaned .before .if3 .left) (clean-read (now (a .m)) (now (a .heads)) (now (a .triples)) (read .shape .ensures) (cleaned .is-clean .ensures)) (sought .before .if4 .left)
     (found-read (now (a .m)) (now (a .heads)) (now (a .triples)) (read .shape .ensures) (sought .open-step .ensures)) (c .before .found .given .1)
 
 returns-6 : tie.Need-returns-6
@@ -109,7 +109,7 @@ returns-6 c =
     let checked = read .before .before in
     let a = checked .before .before .before .args in
     is-accepted (modelIn (now (a .m))) (now (a .heads)) (now (a .triples)) (checked .is-valid .ensures) (read .before .if1 .left) (long-read (now (a .m)) (now (a .heads)) (now (a .triples)) (read .shape .ensures) (long .long-enough .ensures)) (start .before .before .before .if2 .left)
-    (start-read (now (a .m)) (now (a .heads)) (now (a .triples)) (read .shape .ensures) (start .has-head .ensures)) (cleaned .before .if3 .left) (clean-read (now (a .m)) (now (a .heads)) (now (a .triples)) (read .shape .ensures) (cleaned .is-clean .ensures)) (sought .before .if4 .left)
+    (start-read (now (a .m)) (now (a .heads)) (now (a .triples)) (read .shape .ensures) (start .has .ensures)) (cleaned .before .if3 .left) (clean-read (now (a .m)) (now (a .heads)) (now (a .triples)) (read .shape .ensures) (cleaned .is-clean .ensures)) (sought .before .if4 .left)
     (found-read (now (a .m)) (now (a .heads)) (now (a .triples)) (read .shape .ensures) (sought .open-step .ensures)) (c .enum-told .given .1)
 
 pub check-table-spec : {M : Type 1} → statement M
@@ -123,7 +123,7 @@ check-table-spec =
     returns-2
     cast-q
     cast-g
-    has-head-requires
+    has-requires
     returns-3
     is-clean-requires
     returns-4
