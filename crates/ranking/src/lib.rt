@@ -1,5 +1,4 @@
 // The rank that a line of a listing gives to a fact: put into the fact's cell, or refused.
-ghost use mathlib.Core.Path.{_≡_};
 ghost use Rattle.table.specs.Places.{factOf};
 ghost use Rattle.ranking.specs.Rank.{rankFault, headFault, headPut, tripleFault, triplePut, rankPut, Ranked};
 use numbers::Numbers;

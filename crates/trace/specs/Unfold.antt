@@ -2,10 +2,9 @@
 use mathlib.Core.List.{List, []}
 use mathlib.Core.Option.{Option}
 use mathlib.Core.Path.{_≡_}
-use Prim.Native.Nat.{ℕ, suc, _+_, _≤_, _<_, min}
+use Prim.Native.Nat.{ℕ, suc, _+_, _≤_, _<_}
 use lib.Dec.{T}
 use lib.ListN.{length}
-use lib.Seq.{sets}
 use Rattle.product.specs.Lists.{each}
 use Rattle.product.specs.Product.{Product, Step, stored}
 use Rattle.product.specs.Facts.{Fact, Way}

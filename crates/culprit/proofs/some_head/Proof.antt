@@ -1,4 +1,4 @@
--- `culprit::some_head` meets its contract. The invariants are those of a search: nothing was found yet. Assumes nothing.
+-- `culprit::some_head` meets its contract. The invariants are those of a search: nothing was found yet; the symbols and the states that are left fall. Assumes nothing.
 use Rattle.lent.specs.Lending.{productIn}
 use borrow.Author.Needs.{needs}
 use mathlib.Core.Option.{none}

@@ -1,4 +1,4 @@
--- `culprit::some_triple` meets its contract. Assumes nothing.
+-- `culprit::some_triple` meets its contract. The loop's invariant: nothing was found yet; the states that are left fall. Assumes nothing.
 use Rattle.lent.specs.Lending.{productIn}
 use borrow.Author.Needs.{needs}
 use mathlib.Core.Option.{none}

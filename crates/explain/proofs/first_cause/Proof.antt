@@ -1,5 +1,5 @@
--- `explain::first_cause` meets its contract. The invariant of each loop is that nothing was found below its number; what is found first leaves all three.
--- Assumes nothing.
+-- `explain::first_cause` meets its contract. The invariant of each loop is that nothing was found below its number; what is found first leaves all three. The rules,
+-- moves and states that are left fall. Assumes nothing.
 use borrow.Author.Needs.{needs}
 use Rattle.lent.specs.Lending.{productIn}
 use Rattle.table.specs.Places.{factOf}

@@ -1,4 +1,4 @@
--- `kept::returns_pass` meets its contract. The loop's invariant: the returns in the states before e are kept. Assumes nothing.
+-- `kept::returns_pass` meets its contract. The loop's invariant: the returns in the states before e are kept; the states that are left fall. Assumes nothing.
 use mathlib.Core.Bool.{true}
 use mathlib.Core.Path.{_≡_, refl}
 use Prim.Native.Nat.{_-_, _≤_}

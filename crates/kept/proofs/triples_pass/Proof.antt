@@ -1,4 +1,4 @@
--- `kept::triples_pass` meets its contract. The loop's invariant: the end states before e are passed back. Assumes nothing.
+-- `kept::triples_pass` meets its contract. The loop's invariant: the end states before e are passed back; those that are left fall. Assumes nothing.
 use mathlib.Core.Bool.{true}
 use mathlib.Core.Path.{_≡_, refl}
 use Prim.Native.Nat.{_-_, _≤_}

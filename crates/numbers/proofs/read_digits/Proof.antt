@@ -1,4 +1,4 @@
--- `numbers::read_digits` meets its contract. Assumes nothing.
+-- `numbers::read_digits` meets its contract. The loop's invariant: what was read, with what is left, spells the number that was asked for; what is left falls. Assumes nothing.
 use Prim.Native.Nat.{_+_, _≤_, _<_, _-_, _^_}
 use mathlib.Core.Path.{_≡_, sym, _∙_}
 use lib.ListN.{length, drop, List·getD-eq-default}

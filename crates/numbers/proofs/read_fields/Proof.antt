@@ -1,4 +1,4 @@
--- `numbers::read_fields` meets its contract. Assumes nothing.
+-- `numbers::read_fields` meets its contract. The loop's invariant is `Turn`; what is left of the text falls. Assumes nothing.
 use lib.ListN.{length}
 use Rattle.text.proofs.Split.{after-shorter}
 use Rattle.numbers.proofs.Field.{end-within}

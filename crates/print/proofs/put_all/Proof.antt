@@ -1,4 +1,4 @@
--- `print::put_all` meets its contract. Assumes nothing.
+-- `print::put_all` meets its contract. The loop's invariant: the first i bytes are put; those that are left fall. Assumes nothing.
 use Prim.Native.Nat.{_-_, _≤_}
 use lib.ListN.{length, take}
 use lib.Seq.{take-all}

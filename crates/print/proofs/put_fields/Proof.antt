@@ -1,4 +1,4 @@
--- `print::put_fields` meets its contract. Assumes nothing.
+-- `print::put_fields` meets its contract. The loop's invariant: the first i fields are put; those that are left fall. Assumes nothing.
 use Prim.Native.Nat.{_-_, _≤_}
 use mathlib.Core.Path.{ap}
 use lib.ListN.{length, take}

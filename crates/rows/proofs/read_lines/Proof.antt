@@ -1,4 +1,4 @@
--- `rows::read_lines` meets its contract. Assumes nothing.
+-- `rows::read_lines` meets its contract. The loop's invariant is `Turn`, and the arrays are as long as they were; what is left of the text falls. Assumes nothing.
 use lib.ListN.{length}
 use mathlib.Core.Path.{_≡_, refl, _∙_}
 use Rattle.text.proofs.Split.{after-shorter}

@@ -1,4 +1,4 @@
--- `decide::stamps::stamp_heads` meets its contract. Assumes nothing.
+-- `decide::stamps::stamp_heads` meets its contract. The loop's invariant: what is left to stamp, with the table as it is, makes what was asked; the set that is left falls, as a number. Assumes nothing.
 use lib.Count.{trailing-le}
 use Rattle.product.specs.Facts.{head}
 use Rattle.table.proofs.Places.{fact-put}

@@ -4,9 +4,6 @@ use Rattle.explain.proofs.Given.{enters-elsewhere, enters-it}
 use borrow.Author.Needs.{needs}
 use Rattle.explain.proofs.ways.entered.Statement.{statement}
 use Rattle.explain.proofs.ways.entered.Tie as tie
-use Rattle.explain.proofs.ways.entered.Reads as reads
-use Rattle.explain.proofs.ways.entered.Lts as lts
-use Rattle.explain.proofs.ways.caused.Reads as caused-reads
 
 returns : tie.Need-returns
 returns c =

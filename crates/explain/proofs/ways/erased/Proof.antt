@@ -5,9 +5,6 @@ use Rattle.explain.specs.Search.{stepOf}
 use Rattle.explain.proofs.Given.{leaves-elsewhere, erases-it}
 use Rattle.explain.proofs.ways.erased.Statement.{statement}
 use Rattle.explain.proofs.ways.erased.Tie as tie
-use Rattle.explain.proofs.ways.erased.Reads as reads
-use Rattle.explain.proofs.ways.erased.Lts as lts
-use Rattle.explain.proofs.ways.caused.Reads as caused-reads
 
 enum-known-rule : tie.Need-enum-known-rule
 enum-known-rule c = c .match .keys1

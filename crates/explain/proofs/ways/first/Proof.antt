@@ -1,10 +1,6 @@
 -- `explain::ways::first` meets its contract. Assumes nothing.
 use Rattle.explain.proofs.ways.first.Statement.{statement}
 use Rattle.explain.proofs.ways.first.Tie as tie
-use Rattle.explain.proofs.ways.first.Reads as reads
-use Rattle.explain.proofs.ways.first.Lts as lts
-use Rattle.explain.proofs.ways.entered.Reads as entered-reads
-use Rattle.explain.proofs.ways.erased.Reads as erased-reads
 
 enum-known-f : tie.Need-enum-known-f
 enum-known-f c = c .match .keys1

@@ -3,9 +3,6 @@ use Rattle.explain.proofs.Given.{returns-it}
 use borrow.Author.Needs.{needs}
 use Rattle.explain.proofs.ways.returned.Statement.{statement}
 use Rattle.explain.proofs.ways.returned.Tie as tie
-use Rattle.explain.proofs.ways.returned.Reads as reads
-use Rattle.explain.proofs.ways.returned.Lts as lts
-use Rattle.explain.proofs.ways.caused.Reads as caused-reads
 
 enum-told : tie.Need-enum-told
 enum-told c = c .match .keys1

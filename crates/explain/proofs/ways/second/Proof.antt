@@ -2,9 +2,6 @@
 use borrow.Author.Needs.{needs}
 use Rattle.explain.proofs.ways.second.Statement.{statement}
 use Rattle.explain.proofs.ways.second.Tie as tie
-use Rattle.explain.proofs.ways.second.Reads as reads
-use Rattle.explain.proofs.ways.second.Lts as lts
-use Rattle.explain.proofs.ways.returned.Reads as returned-reads
 
 enum-known-f : tie.Need-enum-known-f
 enum-known-f c = c .match .keys1

@@ -1,4 +1,4 @@
--- `recheck::search::open_move` meets its contract. The loop's invariant: no step of rule r and the moves before v is open. Assumes nothing.
+-- `recheck::search::open_move` meets its contract. The loop's invariant: no step of rule r and the moves before v is open; the moves that are left fall. Assumes nothing.
 use mathlib.Core.List.{[], _∷_}
 use mathlib.Core.Option.{none}
 use mathlib.Core.Path.{_≡_, refl, sym, ap}

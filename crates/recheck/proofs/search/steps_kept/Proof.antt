@@ -1,4 +1,4 @@
--- `recheck::search::steps_kept` meets its contract. The loop's invariant: the steps from the states before q are kept. Assumes nothing.
+-- `recheck::search::steps_kept` meets its contract. The loop's invariant: the steps from the states before q are kept; the states that are left fall. Assumes nothing.
 use borrow.Author.Needs.{needs}
 use mathlib.Core.Bool.{true}
 use mathlib.Core.Path.{_≡_, refl}
