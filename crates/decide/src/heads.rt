@@ -1,4 +1,5 @@
 // A round of the heads: where the steps of a rule end, there is a head of what it puts on top, and of what lies under that once it is erased.
+// `round_heads` has nine parameters: six are lent, and a struct that holds a reference has no proof but one by hand (see triples.rt).
 ghost use mathlib.Core.Path.{_≡_};
 ghost use mathlib.Core.Bool.{_&&_};
 ghost use Prim.Native.Nat.{ℕ, _<_};

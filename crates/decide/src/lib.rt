@@ -7,6 +7,7 @@ use crate::build::first_rules;
 use crate::build::goal_of;
 use lent::Lent;
 use model::Shape;
+use table::Fact;
 use table::Size;
 
 // A verdict with its rounds, or a refusal: 6, 7, and 8 with the budget.
@@ -47,7 +48,8 @@ fn start(heads: &mut [u16], triples: &mut [u16], size: Size, q: usize, g: usize)
 {
     table::clear(heads, table::head_count(size));
     table::clear(triples, table::triple_count(size));
-    table::put_head(heads, size, q, g, 0);
+    let place = table::place_of(size, Fact::Head(q, g));
+    table::put(heads, place, 0);
 }
 
 // The rounds of a valid model, whose shape was asked for, in arrays that are long enough.

@@ -4,6 +4,7 @@ ghost use Rattle.lent.specs.Lending.{modelIn};
 ghost use Rattle.recheck.specs.Recheck.{meaning, recheck};
 use crate::search::open_step;
 use lent::Lent;
+use table::Fact;
 
 // The answer. specs/Recheck.antt gives the document's number and values of each.
 pub enum Recheck {
@@ -39,7 +40,7 @@ pub fn check_table<'a>(m: &'a Lent, heads: &'a [u16], triples: &'a [u16]) -> Rec
     let s = lent::shape(m);
     let q = s.startstate as usize;
     let g = s.startsymbol as usize;
-    if !kept::has_head(heads, size, q, g) {
+    if !kept::has(heads, triples, size, Fact::Head(q, g)) {
         return Recheck::NoStart;
     }
     if !culprit::is_clean(m, heads, triples, size, q, g) {

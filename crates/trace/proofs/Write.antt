@@ -10,7 +10,7 @@ use borrow.Author.Tests.{le-leb, lt-leb}
 use lib.ListN.{length}
 use Rattle.product.specs.Lists.{each}
 use Rattle.product.specs.Product.{Product, Step, stored}
-use Rattle.product.specs.Facts.{Fact, head, triple, cells}
+use Rattle.product.specs.Facts.{Fact, cells}
 use Rattle.product.specs.Rounds.{held}
 use Rattle.product.specs.Verdict.{violating}
 use Rattle.product.specs.Trace.{culprit, trace, traceTo}
@@ -24,10 +24,11 @@ use Rattle.text.specs.Put.{Put}
 use Rattle.table.specs.declared.Size.{Size}
 use Rattle.table.specs.Cells.{view}
 use Rattle.fitting.specs.Fits.{sizeOf}
+use Rattle.table.proofs.Places.{fact-back}
 use Rattle.culprit.specs.declared.Goal.{Goal}
 use Rattle.trace.specs.declared.Traced.{Traced}
 use Rattle.trace.specs.declared.Traced.the-variants.{Found, Cut}
-use Rattle.culprit.specs.Culprit.{goalOf, goalAs, culpritIn}
+use Rattle.culprit.specs.Culprit.{goalAs, culpritIn}
 use Rattle.explain.specs.Search.{whyIn}
 use Rattle.trace.specs.Unfold.{HeldFor, stepsFor, Unfolded}
 use Rattle.trace.specs.Written.{Ranked, violationSteps, Written}
@@ -38,16 +39,11 @@ use Rattle.trace.proofs.Ranked.{explains-ranked}
 module _ (p : Product) (n : ℕ) where
   goal-held : (o : Option Fact) → culprit p n ≡ o → HeldFor p n (goalAs o)
   goal-held none e = tt
-  goal-held (some f) e = go f (and-right (violating p f) (held p n f) (find-elim (λ f. violating p f && held p n f) (cells p) f e .1))
-    where
-      go : (f : Fact) → T (held p n f) → HeldFor p n (goalOf f)
-      go (head q g) h = h
-      go (triple q g e) h = h
+  goal-held (some f) e = subst⁻¹ (λ f. T (held p n f)) (fact-back f) (and-right (violating p f) (held p n f) (find-elim (λ f. violating p f && held p n f) (cells p) f e .1))
 
   goal-trace : (o : Option Fact) → stepsFor (trace p n) (goalAs o) ≡ traceTo p n o
   goal-trace none = refl
-  goal-trace (some (head q g)) = refl
-  goal-trace (some (triple q g e)) = refl
+  goal-trace (some f) = ap (trace p n) (fact-back f)
 
 module _ (m : Model) (n : ℕ) (hs ts : List ℕ) (R : Ranked m n hs ts) {f : Goal}
     (taken : f ≡ goalAs (culpritIn (productOf m .final) (m .symbols) (m .states) hs ts (m .startstate) (m .startsymbol))) {room room′ : List ℕ} {at : ℕ}

@@ -30,8 +30,8 @@ cast-q c = search needs
 cast-g : tie.Need-cast-g
 cast-g c = search needs
 
-has-head-requires : tie.Need-has-head-requires
-has-head-requires c κs = search needs
+has-requires : tie.Need-has-requires
+has-requires c κs = search needs
 
 returns-3 : tie.Need-returns-3
 returns-3 c =
@@ -43,7 +43,7 @@ returns-3 c =
     let a = measured .before .before .before .args in
     let z = sized (modelIn (now (a .m))) (now (a .heads)) (now (a .triples)) (measured .measure .ensures) (one .if1 .left) (two .if2 .left) in
     has-no-start (modelIn (now (a .m))) (now (a .heads)) (now (a .triples)) (measured .measure .ensures) (one .if1 .left) (two .if2 .left)
-    (start-read (now (a .m)) (now (a .heads)) (now (a .triples)) (z .size-is) (read .shape .ensures) (start .has-head .ensures)) (c .if3 .taken)
+    (start-read (now (a .m)) (now (a .heads)) (now (a .triples)) (z .size-is) (read .shape .ensures) (start .has .ensures)) (c .if3 .taken)
 
 is-clean-requires : tie.Need-is-clean-requires
 is-clean-requires c κs = search needs
@@ -59,7 +59,7 @@ returns-4 c =
     let a = measured .before .before .before .args in
     let z = sized (modelIn (now (a .m))) (now (a .heads)) (now (a .triples)) (measured .measure .ensures) (one .if1 .left) (two .if2 .left) in
     has-violating (modelIn (now (a .m))) (now (a .heads)) (now (a .triples)) (measured .measure .ensures) (one .if1 .left) (two .if2 .left)
-    (start-read (now (a .m)) (now (a .heads)) (now (a .triples)) (z .size-is) (read .shape .ensures) (start .has-head .ensures)) (cleaned .before .if3 .left)
+    (start-read (now (a .m)) (now (a .heads)) (now (a .triples)) (z .size-is) (read .shape .ensures) (start .has .ensures)) (cleaned .before .if3 .left)
     (clean-read (now (a .m)) (now (a .heads)) (now (a .triples)) (z .size-is) (read .shape .ensures) (cleaned .is-clean .ensures)) (c .if4 .taken)
 
 open-step-requires : tie.Need-open-step-requires
@@ -90,7 +90,7 @@ returns-5 c =
     let a = measured .before .before .before .args in
     let z = sized (modelIn (now (a .m))) (now (a .heads)) (now (a .triples)) (measured .measure .ensures) (one .if1 .left) (two .if2 .left) in
     is-open (modelIn (now (a .m))) (now (a .heads)) (now (a .triples)) (measured .measure .ensures) (one .if1 .left) (two .if2 .left)
-    (start-read (now (a .m)) (now (a .heads)) (now (a .triples)) (z .size-is) (read .shape .ensures) (start .has-head .ensures)) (cleaned .before .if3 .left)
+    (start-read (now (a .m)) (now (a .heads)) (now (a .triples)) (z .size-is) (read .shape .ensures) (start .has .ensures)) (cleaned .before .if3 .left)
     (clean-read (now (a .m)) (now (a .heads)) (now (a .triples)) (z .size-is) (read .shape .ensures) (cleaned .is-clean .ensures)) (sought .before .if4 .left)
     (found-read (now (a .m)) (now (a .heads)) (now (a .triples)) (z .size-is) (sought .open-step .ensures)) (c .before .found .given .1)
 
@@ -106,7 +106,7 @@ returns-6 c =
     let a = measured .before .before .before .args in
     let z = sized (modelIn (now (a .m))) (now (a .heads)) (now (a .triples)) (measured .measure .ensures) (one .if1 .left) (two .if2 .left) in
     is-accepted (modelIn (now (a .m))) (now (a .heads)) (now (a .triples)) (measured .measure .ensures) (one .if1 .left) (two .if2 .left)
-    (start-read (now (a .m)) (now (a .heads)) (now (a .triples)) (z .size-is) (read .shape .ensures) (start .has-head .ensures)) (cleaned .before .if3 .left)
+    (start-read (now (a .m)) (now (a .heads)) (now (a .triples)) (z .size-is) (read .shape .ensures) (start .has .ensures)) (cleaned .before .if3 .left)
     (clean-read (now (a .m)) (now (a .heads)) (now (a .triples)) (z .size-is) (read .shape .ensures) (cleaned .is-clean .ensures)) (sought .before .if4 .left)
     (found-read (now (a .m)) (now (a .heads)) (now (a .triples)) (z .size-is) (sought .open-step .ensures)) (c .enum-told .given .1)
 
@@ -120,7 +120,7 @@ check-table-spec =
     shape-requires
     cast-q
     cast-g
-    has-head-requires
+    has-requires
     returns-3
     is-clean-requires
     returns-4

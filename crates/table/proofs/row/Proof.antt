@@ -1,10 +1,10 @@
--- `table::head_place` meets its contract. Assumes nothing.
+-- `table::row` meets its contract. Assumes nothing.
 use native.Mathlib.Omega.{arith}
 use borrow.Author.Needs.{needs}
 use Rattle.table.proofs.Bytes.{cell-small}
 use Rattle.table.proofs.Places.{head-state, head-symbol, head-cell}
-use Rattle.table.proofs.head_place.Statement.{statement}
-use Rattle.table.proofs.head_place.Tie as tie
+use Rattle.table.proofs.row.Statement.{statement}
+use Rattle.table.proofs.row.Tie as tie
 
 cast-if1 : tie.Need-cast-if1
 cast-if1 c = search needs
@@ -40,6 +40,6 @@ returns-3 c =
     let a = c .before .before .before .before .before .args in
     head-cell (a .size .symbols) (a .size .states) (a .q) (a .g) (c .before .before .before .if1 .left) (c .before .if2 .left)
 
-pub head-place-spec : {M : Type 1} → statement M
-head-place-spec =
+pub row-spec : {M : Type 1} → statement M
+row-spec =
     tie.close (tie.spec cast-if1 returns cast-if2 returns-2 cast-t4 mul-t6 add-t7 returns-3)
