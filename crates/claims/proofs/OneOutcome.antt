@@ -12,8 +12,8 @@ use Rattle.claims.specs.OneOutcome.{OneOutcome}
 pub each-one : OneOutcome
 each-one = record {
   reading = λ text r r′ cells cells′ e e′. read.one-outcome e e′;
-  listing = λ m text hs ts hs′ hs″ ts′ ts″ r r′ a b. (listing.meaning-one r r′ (a .answers ∙ sym (b .answers)), a .heads-left ∙ sym (b .heads-left), a .triples-left ∙ sym (b .triples-left));
-  writing = λ m rounds hs ts out out′ out″ r r′ a b. (printing.meaning-one r r′ (a .answers ∙ sym (b .answers)), a .leaves ∙ sym (b .leaves));
+  listing = λ m text hs ts hs′ hs″ ts′ ts″ r r′ a b. (listing.meaning-one r r′ (a .answer ∙ sym (b .answer)), a .heads-left ∙ sym (b .heads-left), a .triples-left ∙ sym (b .triples-left));
+  writing = λ m rounds hs ts out out′ out″ r r′ a b. (printing.meaning-one r r′ (a .answer ∙ sym (b .answer)), a .leaves ∙ sym (b .leaves));
   deciding = decided-one;
   checking = λ m hs ts r r′ e e′. recheck.meaning-one r r′ (e ∙ sym e′);
   tracing = outcome-one;

@@ -63,14 +63,14 @@ refused-means e h z = go (eqb (e .refusal) 1) refl (eqb (e .refusal) 2) refl (eq
 module _ (m : Model) (text hs ts : List ℕ) {f : Fit} (e : f ≡ fitOf m (length hs) (length ts)) where
   pub invalid-reads : f .refusal ≡ 6 → Reads m text hs ts hs ts Invalid
   invalid-reads n = record {
-    answers = sym (is-invalid m (length hs) (length ts) e n _ _ _);
+    answer = sym (is-invalid m (length hs) (length ts) e n _ _ _);
     heads-left = sym (is-invalid m (length hs) (length ts) e n _ _ _);
     triples-left = sym (is-invalid m (length hs) (length ts) e n _ _ _);
   }
 
   pub short-reads : f .refusal ≡ 7 → Reads m text hs ts hs ts Short
   short-reads n = record {
-    answers = sym (is-short m (length hs) (length ts) e n _ _ _);
+    answer = sym (is-short m (length hs) (length ts) e n _ _ _);
     heads-left = sym (is-short m (length hs) (length ts) e n _ _ _);
     triples-left = sym (is-short m (length hs) (length ts) e n _ _ _);
   }
@@ -85,7 +85,7 @@ lines-read m text is p = p ∙ ap (λ z. readText z (before (replicate 256 absen
 module _ (m : Model) (text hs ts : List ℕ) (f : Fits m (length hs) (length ts)) {e : Ended} (is : e ≡ linesOf m text) where
   read : {hs′ ts′ : List ℕ} {r : ListingRead} → meaning r ≡ answerOf e → hs′ ≡ headsLeft m e hs → ts′ ≡ triplesLeft m e ts → Reads m text hs ts hs′ ts′ r
   read a b c = record {
-    answers = a ∙ ap answerOf is ∙ sym (tested-well m (length hs) (length ts) f _ _ _);
+    answer = a ∙ ap answerOf is ∙ sym (tested-well m (length hs) (length ts) f _ _ _);
     heads-left = b ∙ ap (λ x. headsLeft m x hs) is ∙ sym (tested-well m (length hs) (length ts) f _ _ _);
     triples-left = c ∙ ap (λ x. triplesLeft m x ts) is ∙ sym (tested-well m (length hs) (length ts) f _ _ _);
   }

@@ -48,7 +48,7 @@ unfoldable pub triplesLeft : Model → Ended → List ℕ → List ℕ
 triplesLeft m r ts = pick (eqb (r .refusal) 0) (filled (triplesOf m) (r .state .triplecells) ts) ts
 
 -- the answer, and the two arrays afterwards: 6 and 7, then the text
-pub record Reads (m : Model) (text heads triples headsAfter triplesAfter : List ℕ) (answer : ListingRead) : Type 0 where
-  pub answers : meaning answer ≡ guarded m (length heads) (length triples) (answerOf (linesOf m text))
+pub record Reads (m : Model) (text heads triples headsAfter triplesAfter : List ℕ) (r : ListingRead) : Type 0 where
+  pub answer : meaning r ≡ guarded m (length heads) (length triples) (answerOf (linesOf m text))
   pub heads-left : headsAfter ≡ tested m (length heads) (length triples) heads heads (headsLeft m (linesOf m text) heads)
   pub triples-left : triplesAfter ≡ tested m (length heads) (length triples) triples triples (triplesLeft m (linesOf m text) triples)

@@ -24,6 +24,7 @@ pub data Outcome : Type 0 where
 abbrev pub deciding : Model → ℕ → Answer Outcome
 deciding m budget = elim (answer (productOf m) budget) [ none ↦ refused 8 (budget ∷ []) | some v ↦ answered (decides v (each (traceOf (productOf m) v) stored)) ]
 
+-- what a call that accepts or refuses answers
 abbrev pub accepting : Answer Acceptance → Answer Outcome
 accepting (answered a) = answered (accepts a)
 accepting (refused number values) = refused number values

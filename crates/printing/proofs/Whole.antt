@@ -90,10 +90,10 @@ meaning-one = apart meant meant-meaning
 -- the public call: a record or an array that is refused, by its number
 module _ (m : Model) (rounds : ℕ) (hs ts out : List ℕ) {f : Fit} (e : f ≡ fitOf m (length hs) (length ts)) where
   pub invalid-writes : f .refusal ≡ 6 → Writes m rounds hs ts out out Invalid
-  invalid-writes n = record { answers = sym (is-invalid m (length hs) (length ts) e n _ _ _); leaves = sym (is-invalid m (length hs) (length ts) e n _ _ _) }
+  invalid-writes n = record { answer = sym (is-invalid m (length hs) (length ts) e n _ _ _); leaves = sym (is-invalid m (length hs) (length ts) e n _ _ _) }
 
   pub short-writes : f .refusal ≡ 7 → Writes m rounds hs ts out out Short
-  short-writes n = record { answers = sym (is-short m (length hs) (length ts) e n _ _ _); leaves = sym (is-short m (length hs) (length ts) e n _ _ _) }
+  short-writes n = record { answer = sym (is-short m (length hs) (length ts) e n _ _ _); leaves = sym (is-short m (length hs) (length ts) e n _ _ _) }
 
   -- else the listing is put
   module _ (p : f .refusal ≡ 6 → ⊥) (q : f .refusal ≡ 7 → ⊥) where
@@ -123,7 +123,7 @@ module _ (m : Model) (rounds : ℕ) (hs ts out : List ℕ) {f : Fit} (e : f ≡ 
 
     module _ {after : List ℕ} {n : ℕ} (x : Put out after 0 n (bytesOf m rounds hs ts)) where
       writes : {w : Written} → meaning w ≡ answered (fitted (length (bytesOf m rounds hs ts)) (length out)) → Writes m rounds hs ts out after w
-      writes a = record { answers = a ∙ sym (tested-well m (length hs) (length ts) fits _ _ _); leaves = x .cells ∙ sym (tested-well m (length hs) (length ts) fits _ _ _) }
+      writes a = record { answer = a ∙ sym (tested-well m (length hs) (length ts) fits _ _ _); leaves = x .cells ∙ sym (tested-well m (length hs) (length ts) fits _ _ _) }
 
       pub all-writes : n ≤ length after → Writes m rounds hs ts out after (Bytes n)
       all-writes l =

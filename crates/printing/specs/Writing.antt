@@ -34,8 +34,8 @@ abbrev pub fitted : (n room : ℕ) → Listed
 fitted n room = pick (ltb room n) cut (bytes n)
 
 -- how many bytes the listing has; as many of them stand in `out` as it has room for, from its first byte on, and no other byte changes
-pub record Writes (m : Model) (rounds : ℕ) (heads triples out after : List ℕ) (answer : Written) : Type 0 where
-  pub answers : meaning answer ≡ guarded m (length heads) (length triples) (answered (fitted (length (bytesOf m rounds heads triples)) (length out)))
+pub record Writes (m : Model) (rounds : ℕ) (heads triples out after : List ℕ) (r : Written) : Type 0 where
+  pub answer : meaning r ≡ guarded m (length heads) (length triples) (answered (fitted (length (bytesOf m rounds heads triples)) (length out)))
   pub leaves : after ≡ tested m (length heads) (length triples) out out (sets out 0 (bytesOf m rounds heads triples))
 
 -- there are symbols and states, and the cell's number is small

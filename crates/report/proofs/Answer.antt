@@ -54,7 +54,7 @@ placeOf (refused n vs) room = 0
 -- of a valid model, and from arrays of its sizes, a listing is put
 module _ (m : Model) (rounds : ℕ) {hs ts out after : List ℕ} {w : Written} (t : Fits m (length hs) (length ts)) (x : Writes m rounds hs ts out after w) where
   as-fitted : printing.meaning w ≡ answered (fitted (length (bytesOf m rounds hs ts)) (length out))
-  as-fitted = x .answers ∙ tested-well m (length hs) (length ts) t _ _ _
+  as-fitted = x .answer ∙ tested-well m (length hs) (length ts) t _ _ _
 
   as-set : after ≡ sets out 0 (bytesOf m rounds hs ts)
   as-set = x .leaves ∙ tested-well m (length hs) (length ts) t _ _ _

@@ -57,7 +57,7 @@ case-line r e = omega (arith, r .small, ap (λ x. lineIn (meaning x)) e)
 -- the reading of a listing, of a valid model and into arrays that have room
 module _ (m : Model) (text : List ℕ) {hs ts hs′ ts′ : List ℕ} {x : ListingRead} (f : Fits m (length hs) (length ts)) (r : Reads m text hs ts hs′ ts′ x) where
   read-is : meaning x ≡ listingRead m text
-  read-is = r .answers ∙ tested-well m (length hs) (length ts) f _ _ _
+  read-is = r .answer ∙ tested-well m (length hs) (length ts) f _ _ _
 
   pub heard : {h t : ℕ} → Fits m h t → Heard m x h t
   heard g = record {
