@@ -73,7 +73,7 @@ pub fn place_of(size: Size, f: Fact) -> Place
     }
 }
 
-// The rank at a place: 65,535 where there is none.
+// The rank at a place: 65,535 where there is none, and 0 past the end of the array.
 pub fn read(cells: &[u16], place: Place) -> u16
     ensures { λ r. ⌜ r ≡ readAt (now (cells .entry)) place ⌝ }
 {
@@ -88,7 +88,7 @@ pub fn read(cells: &[u16], place: Place) -> u16
     }
 }
 
-// Puts the rank n at a place; where there is none, nothing changes.
+// Puts the rank n at a place; where there is none, or past the end of the array, nothing changes.
 pub fn put(cells: &mut [u16], place: Place, n: u16)
     ensures { λ _. ⌜ now (cells .exit) ≡ putAt (now (cells .entry)) place n ⌝ }
 {
