@@ -11,11 +11,11 @@ ghost use Rattle.decide.specs.Stamp.{of-heads, alone};
 ghost use Rattle.decide.specs.Gather.{Empty};
 ghost use Rattle.decide.specs.Take.{Took, Room, Fits};
 ghost use Rattle.decide.specs.Show.{landing, shown, shownAll, Shows, RowsCover, ShowsAll, RowsFit, SettlesRows, HeadsReady, HeadsDone};
-use steps::row_at;
 use crate::sets::gain;
 use crate::sets::pick;
 use crate::stamps::stamp_heads;
 use lent::Lent;
+use steps::row_at;
 use table::Size;
 
 // The states in which the steps of rule i end, from the heads of its symbol.

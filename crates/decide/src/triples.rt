@@ -9,13 +9,13 @@ ghost use Rattle.steps.specs.Steps.{symbolOf};
 ghost use Rattle.decide.specs.Stamp.{of-triples, alone};
 ghost use Rattle.decide.specs.Gather.{restOf, added, addedBy, Visits, Gains};
 ghost use Rattle.decide.specs.Take.{Took, Room, Fits, givenBy, fromClass, fromClasses, AllFit, TriplesReady, TriplesDone};
-use steps::Row;
-use steps::row_at;
 use crate::sets::add;
 use crate::sets::gain;
 use crate::sets::pick;
 use crate::stamps::stamp;
 use lent::Lent;
+use steps::Row;
+use steps::row_at;
 use table::Size;
 
 // The product of two matrices; where one is empty, none is needed.

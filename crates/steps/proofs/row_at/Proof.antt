@@ -42,7 +42,7 @@ low-requires-2 : tie.Need-low-requires-2
 low-requires-2 c κs = search needs
 
 returns-2 : tie.Need-returns-2
-returns-2 c = 
+returns-2 c =
     let over = c .before .before in
     let class = over .before .before in
     let inside = class .before .before .before in
