@@ -51,7 +51,7 @@ pub fn of_check(r: Recheck) -> Said {
         Recheck::Short => Said(CHECK_REFUSED, 7, 0),
         Recheck::NoStart => Said(CHECK_REFUSED, 11, 1),
         Recheck::Violating => Said(CHECK_REFUSED, 11, 2),
-        Recheck::Open(r, v) => Said(NOT_CLOSED, r as u64, v as u64),
+        Recheck::Open { rule, by } => Said(NOT_CLOSED, rule as u64, by as u64),
     }
 }
 
@@ -67,12 +67,12 @@ pub fn of_decision(d: Decision) -> Said {
 
 pub fn of_trace(t: Traced) -> Said {
     match t {
-        Traced::Found(n, k) => Said(TRACE, n as u64, k as u64),
+        Traced::Found { rounds, steps } => Said(TRACE, rounds as u64, steps as u64),
         Traced::Invalid => Said(TRACE_REFUSED, 6, 0),
         Traced::Short => Said(TRACE_REFUSED, 7, 0),
         Traced::Spent(b) => Said(TRACE_REFUSED, 8, b as u64),
         Traced::Safe(n) => Said(TRACE_REFUSED, 9, n as u64),
-        Traced::Cut(n, room) => Said(TRACE_CUT, n as u64, room as u64),
+        Traced::Cut { rounds, room } => Said(TRACE_CUT, rounds as u64, room as u64),
     }
 }
 

@@ -7,15 +7,15 @@ use Prim.Native.Nat.{ℕ, _+_, _<_, _≤_}
 use native.Mathlib.Omega.{arith}
 use lib.Dec.{T}
 use lib.ListN.{length, drop, length-append, length-drop}
+use Rattle.product.specs.Answer.{answered, accepted}
 use Rattle.product.specs.Verdict.{violation, safe, rounds, Verdict, IsVerdict, answer, bound}
 use Rattle.product.specs.Table.{present, ranks, left}
 use Rattle.product.specs.Check.{accepts}
 use Rattle.product.specs.Demands.{Violates, Demands}
-use Rattle.product.proofs.Lists.{T-true, and-left, and-right, length-upTo}
+use Rattle.product.proofs.Lists.{length-upTo}
 use Rattle.product.proofs.Budget.{answer-of}
 use Rattle.product.proofs.Demands.{demands, bound-small}
 use Rattle.table.specs.Cells.{view, headsOf, triplesOf}
-use Rattle.table.proofs.Long.{long-exactly}
 use Rattle.table.proofs.ReadBack.{length-heads, length-triples}
 use Rattle.model.specs.declared.Model.{Model}
 use Rattle.model.specs.Model.{productOf}
@@ -23,10 +23,10 @@ use Rattle.model.specs.Valid.{valid}
 use Rattle.model.proofs.Valid.{valid-sizes, product-in}
 use Rattle.decide.specs.declared.Decision.{Decision}
 use Rattle.decide.specs.declared.Decision.the-variants.{Violation, Safe, Spent}
-use Rattle.decide.specs.Decided.{verdict, meaning, within, headCount, tripleCount, longEnough, decision, decides, headsLeft, triplesLeft, Decided}
+use Rattle.fitting.specs.Fits.{headsOf as headCount, triplesOf as tripleCount, Fits}
+use Rattle.fitting.proofs.Tested.{tested-well}
+use Rattle.decide.specs.Decided.{meaning, within, decision, headsLeft, triplesLeft, Decided}
 use Rattle.decide.proofs.Coincide.{meaning-one}
-use Rattle.recheck.specs.declared.Recheck.the-variants.{Accepted}
-use Rattle.recheck.specs.Recheck as check
 use Rattle.recheck.specs.Recheck.{recheck}
 use Rattle.recheck.proofs.Answers.{accepted-exactly, accepted-safe}
 use Rattle.decide.proofs.Laid.{ranks-laid}
@@ -36,39 +36,36 @@ pub accepting : Accepting
 accepting m hs ts e (ss, c, r) = accepted-safe m hs ts e ss c r
 
 -- a verdict was answered only if the rounds gave it
-within-verdict : (b : ℕ) (o : Option Verdict) (v : Verdict) → within b o ≡ verdict v → o ≡ some v
+within-verdict : (b : ℕ) (o : Option Verdict) (v : Verdict) → within b o ≡ answered v → o ≡ some v
 within-verdict b none v e = let z : _≡_ {A = ℕ} 0 1 = cc in absurd (omega arith)
 within-verdict b (some u) v e = let i : u ≡ v = cc in ap some i
 
-module _ (m : Model) (hs ts : List ℕ) (ready : T (decides m hs ts)) where
+module _ (m : Model) (hs ts : List ℕ) (ready : Fits m (length hs) (length ts)) where
   is-valid : T (valid m)
-  is-valid = and-left (valid m) (longEnough m (length hs) (length ts)) ready
-
-  long : T (longEnough m (length hs) (length ts))
-  long = and-right (valid m) (longEnough m (length hs) (length ts)) ready
+  is-valid = ready .valid-model
 
   D : Demands (productOf m)
   D = demands (productOf m) (product-in m is-valid)
 
   module _ (b : ℕ) (r : Decision) (hs′ ts′ : List ℕ) (d : Decided m b hs ts r hs′ ts′) where
     -- the answer is that of the rounds
-    answered : meaning r ≡ within b (answer (productOf m) b)
+    said : meaning r ≡ within b (answer (productOf m) b)
     unfolding decision
-    answered = d .answer ∙ rw (T-true (valid m) is-valid, T-true (longEnough m (length hs) (length ts)) long)
+    said = d .answer ∙ tested-well m (length hs) (length ts) ready _ _ _
 
-    of-answer : (v : Verdict) → meaning r ≡ verdict v → answer (productOf m) b ≡ some v
-    of-answer v e = within-verdict b (answer (productOf m) b) v (sym answered ∙ e)
+    of-answer : (v : Verdict) → meaning r ≡ answered v → answer (productOf m) b ≡ some v
+    of-answer v e = within-verdict b (answer (productOf m) b) v (sym said ∙ e)
 
-    to-answer : (r′ : Decision) (v : Verdict) → answer (productOf m) b ≡ some v → meaning r′ ≡ verdict v → r ≡ r′
-    to-answer r′ v e k = meaning-one r r′ (answered ∙ ap (within b) e ∙ sym k)
+    to-answer : (r′ : Decision) (v : Verdict) → answer (productOf m) b ≡ some v → meaning r′ ≡ answered v → r ≡ r′
+    to-answer r′ v e k = meaning-one r r′ (said ∙ ap (within b) e ∙ sym k)
 
     heads-left : hs′ ≡ headsOf (m .symbols) (m .states) (left (productOf m) b) ++ drop (headCount m) hs
     unfolding headsLeft
-    heads-left = d .heads ∙ rw (T-true (decides m hs ts) ready)
+    heads-left = d .heads ∙ tested-well m (length hs) (length ts) ready _ _ _
 
     triples-left : ts′ ≡ triplesOf (m .symbols) (m .states) (left (productOf m) b) ++ drop (tripleCount m) ts
     unfolding triplesLeft
-    triples-left = d .triples ∙ rw (T-true (decides m hs ts) ready)
+    triples-left = d .triples ∙ tested-well m (length hs) (length ts) ready _ _ _
 
   -- every verdict's rounds are few
   few-rounds : (v : Verdict) → IsVerdict (productOf m) v → rounds v ≤ bound (productOf m)
@@ -78,7 +75,7 @@ module _ (m : Model) (hs ts : List ℕ) (ready : T (decides m hs ts)) where
   small = bound-small (productOf m) (valid-sizes m is-valid .symbols) (omega (arith, length-upTo (m .states), valid-sizes m is-valid .states))
 
   -- a verdict that there is, is answered
-  answers : (b : ℕ) (r r′ : Decision) (hs′ ts′ : List ℕ) → Decided m b hs ts r hs′ ts′ → (v : Verdict) → IsVerdict (productOf m) v → rounds v ≤ b → meaning r′ ≡ verdict v → r ≡ r′
+  answers : (b : ℕ) (r r′ : Decision) (hs′ ts′ : List ℕ) → Decided m b hs ts r hs′ ts′ → (v : Verdict) → IsVerdict (productOf m) v → rounds v ≤ b → meaning r′ ≡ answered v → r ≡ r′
   answers b r r′ hs′ ts′ d v i l k = to-answer b r hs′ ts′ d r′ v (answer-of (productOf m) b v i l) k
 
   -- the table that a safe verdict leaves
@@ -94,28 +91,24 @@ module _ (m : Model) (hs ts : List ℕ) (ready : T (decides m hs ts)) where
         rw (heads-left b (Safe n) hs′ ts′ d, triples-left b (Safe n) hs′ ts′ d, safe-answer)
         (ranks-laid m is-valid n (drop (headCount m) hs) (drop (tripleCount m) ts))
 
-    enough : (headCount m ≤ length hs) × (tripleCount m ≤ length ts)
-    enough = long-exactly (m .symbols) (m .states) (length hs) (length ts) .0 long
-
     same-heads : length hs′ ≡ length hs
     same-heads =
         ap length (heads-left b (Safe n) hs′ ts′ d)
         ∙ length-append (headsOf (m .symbols) (m .states) (left (productOf m) b)) (drop (headCount m) hs)
-        ∙ omega (arith, length-heads (m .symbols) (m .states) (left (productOf m) b), length-drop (headCount m) hs, enough .0)
+        ∙ omega (arith, length-heads (m .symbols) (m .states) (left (productOf m) b), length-drop (headCount m) hs, ready .heads-there)
 
     same-triples : length ts′ ≡ length ts
     same-triples =
         ap length (triples-left b (Safe n) hs′ ts′ d)
         ∙ length-append (triplesOf (m .symbols) (m .states) (left (productOf m) b)) (drop (tripleCount m) ts)
-        ∙ omega (arith, length-triples (m .symbols) (m .states) (left (productOf m) b), length-drop (tripleCount m) ts, enough .1)
+        ∙ omega (arith, length-triples (m .symbols) (m .states) (left (productOf m) b), length-drop (tripleCount m) ts, ready .triples-there)
 
-    still-long : T (check.longEnough (check.sizeOf m) hs′ ts′)
-    still-long = long-exactly (m .symbols) (m .states) (length hs′) (length ts′) .1 (omega (arith, same-heads, enough .0), omega (arith, same-triples, enough .1))
+    still-fits : Fits m (length hs′) (length ts′)
+    still-fits = record { valid-model = is-valid; heads-there = omega (arith, same-heads, ready .heads-there); triples-there = omega (arith, same-triples, ready .triples-there) }
 
-    safe-table : recheck m hs′ ts′ ≡ Accepted
+    safe-table : recheck m hs′ ts′ ≡ answered accepted
     safe-table = accepted-exactly m hs′ ts′ .1 (
-      is-valid,
-      still-long,
+      still-fits,
       subst⁻¹ (λ t. T (accepts (productOf m) (present t))) table-is
           (D .safe-accepted n (omega (arith, few-rounds (safe n) safe-is, small)) safe-is),
     )
@@ -133,7 +126,7 @@ module _ (m : Model) (hs ts : List ℕ) (ready : T (decides m hs ts)) where
   )
 
   same-more : (b c : ℕ) → b ≤ c → (r r′ : Decision) (hs′ hs″ ts′ ts″ : List ℕ) → Decided m b hs ts r hs′ ts′ → Decided m c hs ts r′ hs″ ts″
-      → (v : Verdict) → meaning r ≡ verdict v → (r′ ≡ r) × (hs″ ≡ hs′) × (ts″ ≡ ts′)
+      → (v : Verdict) → meaning r ≡ answered v → (r′ ≡ r) × (hs″ ≡ hs′) × (ts″ ≡ ts′)
   same-more b c l r r′ hs′ hs″ ts′ ts″ d d′ v e =
       let (a, k) = D .answer-more b c v (of-answer b r hs′ ts′ d v e) l in (
         to-answer c r′ hs″ ts″ d′ r v a e,
@@ -142,16 +135,16 @@ module _ (m : Model) (hs ts : List ℕ) (ready : T (decides m hs ts)) where
       )
 
   none-below : (b c : ℕ) → (r r′ : Decision) (hs′ hs″ ts′ ts″ : List ℕ) → Decided m b hs ts r hs′ ts′ → Decided m c hs ts r′ hs″ ts″
-      → (v : Verdict) → meaning r ≡ verdict v → c < rounds v → r′ ≡ Spent c
+      → (v : Verdict) → meaning r ≡ answered v → c < rounds v → r′ ≡ Spent c
   none-below b c r r′ hs′ hs″ ts′ ts″ d d′ v e l =
       let i = D .answer-verdict b v (of-answer b r hs′ ts′ d v e) .0 in
-      meaning-one r′ (Spent c) (answered c r′ hs″ ts″ d′ ∙ ap (within c) (D .answer-below c v i l))
+      meaning-one r′ (Spent c) (said c r′ hs″ ts″ d′ ∙ ap (within c) (D .answer-below c v i l))
 
   always-one : (b : ℕ) → bound (productOf m) ≤ b → (r : Decision) (hs′ ts′ : List ℕ) → Decided m b hs ts r hs′ ts′
-      → (v : Verdict) × (meaning r ≡ verdict v) × (rounds v ≤ bound (productOf m))
+      → (v : Verdict) × (meaning r ≡ answered v) × (rounds v ≤ bound (productOf m))
   always-one b l r hs′ ts′ d =
       let (v, e) = D .answer-bound b l in
-      (v, answered b r hs′ ts′ d ∙ ap (within b) e, few-rounds v (D .answer-verdict b v e .0))
+      (v, said b r hs′ ts′ d ∙ ap (within b) e, few-rounds v (D .answer-verdict b v e .0))
 
   pub deciding : Deciding m hs ts
   deciding = record {

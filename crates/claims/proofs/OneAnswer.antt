@@ -9,6 +9,8 @@ use Rattle.modelline.specs.declared.Line.{Line}
 use Rattle.draft.specs.declared.Outline.{Outline}
 use Rattle.draft.specs.declared.Noted.{Noted}
 use Rattle.draft.specs.Written.{Notes}
+use Rattle.steps.specs.declared.Row.{Row}
+use Rattle.steps.specs.Rows.{RowAt}
 use Rattle.rows.specs.declared.Tally.{Tally}
 use Rattle.rows.specs.declared.End.{End}
 use Rattle.rows.specs.State.{Ended}
@@ -51,20 +53,30 @@ seeing text out r r′ x x′ a b = (
   ap₂ (λ (after cells : List ℕ). (after, cells)) (a .puts .cells ∙ sym (b .puts .cells)) (a .reads ∙ sym (b .reads)),
 )
 
+-- a rule's numbers
+row-one : {lent : List ℕ} {r : ℕ} → One (λ row. RowAt lent r row)
+row-one row row′ a b =
+    let k : row .kind ≡ row′ .kind = a .kind-is ∙ sym (b .kind-is) in
+    let c : row .class ≡ row′ .class = a .class-is ∙ sym (b .class-is) in
+    let o : row .over ≡ row′ .over = a .over-is ∙ sym (b .over-is) in
+    let u : row .under ≡ row′ .under = a .under-is ∙ sym (b .under-is) in
+    ap (λ (k : ℕ). record { kind = k; class = row .class; over = row .over; under = row .under }) k
+    ∙ ap (λ (c : ℕ). record { kind = row′ .kind; class = c; over = row .over; under = row .under }) c
+    ∙ ap₂ (λ (o u : ℕ). record { kind = row′ .kind; class = row′ .class; over = o; under = u }) o u
+
 pub each-answer : OneAnswer
 each-answer = record {
   find = λ s c. equal _;
   same = λ a b. equal _;
   read-fields = λ s. equal _;
   write-number = λ n. equal _;
-  head-at = λ z heads q g. equal _;
-  triple-at = λ z triples q g e. equal _;
-  put-head = λ z heads q g n. equal _;
-  put-triple = λ z triples q g e n. equal _;
+  place-of = λ z f. equal _;
+  read = λ cells p. equal _;
+  put-rank = λ cells p n. equal _;
+  rank-at = λ z heads triples f. equal _;
   clear = λ cells n. equal _;
   head-count = λ z. equal _;
   triple-count = λ z. equal _;
-  long-enough = λ z heads triples. equal _;
   culprit = λ lent z heads triples s a. equal _;
   is-clean = λ lent z heads triples s a. equal _;
   blank = equal _;
@@ -80,6 +92,7 @@ each-answer = record {
   class-steps = λ lent. equal _;
   class-of = λ lent r c c′ e e′. e .0 ∙ sym (e′ .0);
   symbol-of = λ c g g′ e e′. e .0 ∙ sym (e′ .0);
+  row-at = λ lent r. row-one;
   states-after = λ lent tg r from. equal _;
   spells = λ s w. equal _;
   read-from = λ s b. equal _;
@@ -102,7 +115,7 @@ each-answer = record {
   put-fields = λ out at numbers. put out at _;
   put-line = λ out at word numbers. put out at _;
   put-named = λ out at word numbers last. put out at _;
-  has-head = λ z heads q g. equal _;
+  has = λ z heads triples f. equal _;
   next-kept = λ z heads triples q ρ n. equal _;
   rule-closed = λ triples heads steps ρ. equal _;
   explain = λ lent heads triples n f. equal _;

@@ -5,31 +5,32 @@ use mathlib.Core.Option.{Option, none, some}
 use mathlib.Core.Path.{_≡_, refl, sym, ap, ap₂, _∙_, subst, subst⁻¹}
 use Prim.Native.Nat.{ℕ, suc, _+_, _<_, _≤_}
 use native.Mathlib.Omega.{arith}
-use lib.Dec.{T, leb}
+use lib.Dec.{leb}
 use borrow.Author.Tests.{leb-true, leb-false}
 use lib.ListN.{length, take, drop, set}
 use lib.Seq.{sets, sets-eq, take-at}
 use Rattle.product.specs.Lists.{each, All}
+use Rattle.product.specs.Answer.{Answer, answered, refused}
 use Rattle.product.specs.Product.{Product, Step, stored, loaded, InRange}
 use Rattle.product.specs.Runs.{State, Run, Reaches}
 use Rattle.product.specs.Verdict.{Verdict, violation, safe}
 use Rattle.product.specs.Verdict as product
 use Rattle.product.specs.Trace.{traceOf}
-use Rattle.product.specs.Table.{Table, left}
+use Rattle.product.specs.Table.{left}
 use Rattle.table.specs.Cells.{headsOf, triplesOf}
-use Rattle.product.proofs.Lists.{length-each, T-true, and-left, and-right}
+use Rattle.product.proofs.Lists.{length-each}
 use Rattle.product.proofs.Closed.{step-elim}
 use Rattle.product.proofs.Demands.{demands, loaded-stored}
 use Rattle.model.specs.declared.Model.{Model}
 use Rattle.model.specs.Model.{productOf}
-use Rattle.model.specs.Valid.{valid}
 use Rattle.model.proofs.Valid.{valid-sizes, product-in}
-use Rattle.decide.specs.Decided.{verdict, within, headCount, tripleCount, longEnough, decision, decides, headsLeft, triplesLeft}
-use Rattle.decide.specs.Decided as decide
+use Rattle.fitting.specs.Fits.{headsOf as headCount, triplesOf as tripleCount, Fits}
+use Rattle.fitting.proofs.Tested.{tested-well, guarded-by, tested-same}
+use Rattle.decide.specs.Decided.{within, decision, headsLeft, triplesLeft}
 use Rattle.trace.specs.declared.Traced.{Traced}
 use Rattle.trace.specs.declared.Traced.the-variants.{Found, Spent, Cut}
-use Rattle.trace.specs.Outcome.{Answer, traced, refused, meaning, tracedBy, stepsBy, Outcome}
-use Rattle.trace.proofs.Outcome.{Answered, answered, outcome-one}
+use Rattle.trace.specs.Outcome.{traced, meaning, tracedBy, stepsBy, Outcome}
+use Rattle.trace.proofs.Outcome.{Answered, answered-by, outcome-one}
 use Rattle.replay.proofs.Outcomes.{accepted-is}
 use Rattle.claims.specs.Tracing.{Tracing, Replaying}
 
@@ -65,83 +66,78 @@ sets-full (y ∷ l) (x ∷ xs) h = sets-past l 0 x x xs ∙ ap (λ l. x ∷ l) (
 
 -- the trace of a violation comes only from a verdict of the decision
 module _ (m : Model) (room : ℕ) where
-  found-by : (n k : ℕ) (a : decide.Answer) → traced n k ≡ tracedBy m room a → (a ≡ verdict (violation n)) × (k ≡ length (traceOf (productOf m) (violation n))) × (k ≤ room)
-  found-by n k (verdict (violation i)) e = go (leb (length (traceOf (productOf m) (violation i))) room) refl e
+  found-by : (n k : ℕ) (a : Answer Verdict) → answered (traced n k) ≡ tracedBy m room a → (a ≡ answered (violation n)) × (k ≡ length (traceOf (productOf m) (violation n))) × (k ≤ room)
+  found-by n k (answered (violation i)) e = go (leb (length (traceOf (productOf m) (violation i))) room) refl e
     where
-      go : (b : Bool) → leb (length (traceOf (productOf m) (violation i))) room ≡ b → traced n k ≡ cond b (traced i (length (traceOf (productOf m) (violation i)))) (refused 10 (i ∷ room ∷ []))
-          → (verdict (violation i) ≡ verdict (violation n)) × (k ≡ length (traceOf (productOf m) (violation n))) × (k ≤ room)
+      go : (b : Bool) → leb (length (traceOf (productOf m) (violation i))) room ≡ b → answered (traced n k) ≡ cond b (answered (traced i (length (traceOf (productOf m) (violation i))))) (refused 10 (i ∷ room ∷ []))
+          → (answered (violation i) ≡ answered (violation n)) × (k ≡ length (traceOf (productOf m) (violation n))) × (k ≤ room)
       go true x e =
           let j : i ≡ n = cc in
           let l : k ≡ length (traceOf (productOf m) (violation i)) = cc in
-          (ap (λ i. verdict (violation i)) j, l ∙ ap (λ i. length (traceOf (productOf m) (violation i))) j, omega (arith, leb-true (length (traceOf (productOf m) (violation i))) room x))
+          (ap (λ i. answered (violation i)) j, l ∙ ap (λ i. length (traceOf (productOf m) (violation i))) j, omega (arith, leb-true (length (traceOf (productOf m) (violation i))) room x))
       go false x e = let z : _≡_ {A = ℕ} 0 1 = cc in absurd (omega arith)
-  found-by n k (verdict (safe i)) e = let z : _≡_ {A = ℕ} 0 1 = cc in absurd (omega arith)
-  found-by n k (decide.refused i vs) e = let z : _≡_ {A = ℕ} 0 1 = cc in absurd (omega arith)
+  found-by n k (answered (safe i)) e = let z : _≡_ {A = ℕ} 0 1 = cc in absurd (omega arith)
+  found-by n k (refused i vs) e = let z : _≡_ {A = ℕ} 0 1 = cc in absurd (omega arith)
 
-  cut-by : (n k : ℕ) (a : decide.Answer) → refused 10 (n ∷ k ∷ []) ≡ tracedBy m room a → ((b : ℕ) (vs : List ℕ) → a ≡ decide.refused b vs → b ≡ 10 → ⊥)
-      → (a ≡ verdict (violation n)) × (room ≤ length (traceOf (productOf m) (violation n)))
-  cut-by n k (verdict (violation i)) e h = go (leb (length (traceOf (productOf m) (violation i))) room) refl e
+  cut-by : (n k : ℕ) (a : Answer Verdict) → refused 10 (n ∷ k ∷ []) ≡ tracedBy m room a → ((b : ℕ) (vs : List ℕ) → a ≡ refused b vs → b ≡ 10 → ⊥)
+      → (a ≡ answered (violation n)) × (room ≤ length (traceOf (productOf m) (violation n)))
+  cut-by n k (answered (violation i)) e h = go (leb (length (traceOf (productOf m) (violation i))) room) refl e
     where
-      go : (b : Bool) → leb (length (traceOf (productOf m) (violation i))) room ≡ b → refused 10 (n ∷ k ∷ []) ≡ cond b (traced i (length (traceOf (productOf m) (violation i)))) (refused 10 (i ∷ room ∷ []))
-          → (verdict (violation i) ≡ verdict (violation n)) × (room ≤ length (traceOf (productOf m) (violation n)))
+      go : (b : Bool) → leb (length (traceOf (productOf m) (violation i))) room ≡ b → refused 10 (n ∷ k ∷ []) ≡ cond b (answered (traced i (length (traceOf (productOf m) (violation i))))) (refused 10 (i ∷ room ∷ []))
+          → (answered (violation i) ≡ answered (violation n)) × (room ≤ length (traceOf (productOf m) (violation n)))
       go true x e = let z : _≡_ {A = ℕ} 0 1 = cc in absurd (omega arith)
       go false x e =
           let j : i ≡ n = cc in
-          (ap (λ i. verdict (violation i)) j, subst (λ i. room ≤ length (traceOf (productOf m) (violation i))) j (omega (arith, leb-false (length (traceOf (productOf m) (violation i))) room x)))
-  cut-by n k (verdict (safe i)) e h = let z : _≡_ {A = ℕ} 9 10 = cc in absurd (omega arith)
-  cut-by n k (decide.refused i vs) e h = let z : 10 ≡ i = cc in absurd (h i vs refl (sym z))
+          (ap (λ i. answered (violation i)) j, subst (λ i. room ≤ length (traceOf (productOf m) (violation i))) j (omega (arith, leb-false (length (traceOf (productOf m) (violation i))) room x)))
+  cut-by n k (answered (safe i)) e h = let z : _≡_ {A = ℕ} 9 10 = cc in absurd (omega arith)
+  cut-by n k (refused i vs) e h = let z : 10 ≡ i = cc in absurd (h i vs refl (sym z))
 
 -- the decision's own refusals are 6, 7 and 8
 module _ (m : Model) (budget h t : ℕ) where
-  its-refusals : (b : ℕ) (vs : List ℕ) → decision m budget h t ≡ decide.refused b vs → b ≡ 10 → ⊥
+  its-refusals : (b : ℕ) (vs : List ℕ) → decision m budget h t ≡ refused b vs → b ≡ 10 → ⊥
   unfolding decision
-  its-refusals b vs = go (valid m) (longEnough m h t) (product.answer (productOf m) budget)
+  its-refusals b vs e i =
+      let (_, k) = guarded-by m h t (within budget (product.answer (productOf m) budget)) (refused b vs) (sym e) (λ w. let z : b ≡ 6 = cc in omega arith) (λ w. let z : b ≡ 7 = cc in omega arith) in
+      go (product.answer (productOf m) budget) k
     where
-      go : (u w : Bool) (o : Option Verdict) → cond u (cond w (within budget o) (decide.refused 7 (0 ∷ []))) (decide.refused 6 (0 ∷ [])) ≡ decide.refused b vs → b ≡ 10 → ⊥
-      go true true none e i = let z : 8 ≡ b = cc in omega arith
-      go true true (some v) e i = let z : _≡_ {A = ℕ} 0 1 = cc in omega arith
-      go true false o e i = let z : 7 ≡ b = cc in omega arith
-      go false w o e i = let z : 6 ≡ b = cc in omega arith
+      go : (o : Option Verdict) → refused b vs ≡ within budget o → ⊥
+      go none e = let z : b ≡ 8 = cc in omega arith
+      go (some v) e = let z : _≡_ {A = ℕ} 0 1 = cc in omega arith
 
   -- where the budget is not spent, a larger one gives the same answer
-  module _ (more : ℕ) (l : budget ≤ more) (unspent : decision m budget h t ≡ decide.refused 8 (budget ∷ []) → ⊥) where
-    same-decision : decision m more h t ≡ decision m budget h t
+  module _ (more : ℕ) (l : budget ≤ more) (unspent : decision m budget h t ≡ refused 8 (budget ∷ []) → ⊥) where
+    more-gives : Fits m h t → (within more (product.answer (productOf m) more) ≡ within budget (product.answer (productOf m) budget)) × (left (productOf m) more ≡ left (productOf m) budget)
     unfolding decision
-    same-decision = go (valid m) refl (longEnough m h t) (product.answer (productOf m) budget) refl unspent
-      where
-        go : (u : Bool) → valid m ≡ u → (w : Bool) (o : Option Verdict) → product.answer (productOf m) budget ≡ o
-            → (cond u (cond w (within budget o) (decide.refused 7 (0 ∷ []))) (decide.refused 6 (0 ∷ [])) ≡ decide.refused 8 (budget ∷ []) → ⊥)
-            → cond u (cond w (within more (product.answer (productOf m) more)) (decide.refused 7 (0 ∷ []))) (decide.refused 6 (0 ∷ []))
-            ≡ cond u (cond w (within budget o) (decide.refused 7 (0 ∷ []))) (decide.refused 6 (0 ∷ []))
-        go true x true none e k = absurd (k refl)
-        go true x true (some v) e k = ap (within more) (demands (productOf m) (product-in m (rw x tt)) .answer-more budget more v e l .0)
-        go true x false o e k = refl
-        go false x w o e k = refl
-
-    same-left : T (valid m) → T (longEnough m h t) → left (productOf m) more ≡ left (productOf m) budget
-    unfolding decision
-    same-left v w = go (product.answer (productOf m) budget) refl unspent
+    more-gives f = go (product.answer (productOf m) budget) refl
       where
         go : (o : Option Verdict) → product.answer (productOf m) budget ≡ o
-            → (cond (valid m) (cond (longEnough m h t) (within budget o) (decide.refused 7 (0 ∷ []))) (decide.refused 6 (0 ∷ [])) ≡ decide.refused 8 (budget ∷ []) → ⊥)
-            → left (productOf m) more ≡ left (productOf m) budget
-        go none e k = absurd (k (rw (T-true (valid m) v, T-true (longEnough m h t) w)))
-        go (some u) e k = demands (productOf m) (product-in m v) .answer-more budget more u e l .1
+            → (within more (product.answer (productOf m) more) ≡ within budget (product.answer (productOf m) budget)) × (left (productOf m) more ≡ left (productOf m) budget)
+        go none e = absurd (unspent (tested-well m h t f _ _ _ ∙ ap (within budget) e))
+        go (some v) e =
+            let (a, b) = demands (productOf m) (product-in m (f .valid-model)) .answer-more budget more v e l in
+            (ap (within more) a ∙ sym (ap (within budget) e), b)
+
+    same-decision : decision m more h t ≡ decision m budget h t
+    unfolding decision
+    same-decision = tested-same m h t _ _ _ _ (λ f. more-gives f .0)
+
+    same-left : Fits m h t → left (productOf m) more ≡ left (productOf m) budget
+    same-left f = more-gives f .1
 
 module _ {m : Model} {budget : ℕ} {hs ts room : List ℕ} {r : Traced} {hs′ ts′ room′ : List ℕ} (O : Outcome m budget hs ts room r hs′ ts′ room′) where
-  abbrev said : decide.Answer
+  abbrev said : Answer Verdict
   said = decision m budget (length hs) (length ts)
 
   abbrev steps : ℕ → List Step
   steps n = traceOf (productOf m) (violation n)
 
   -- a violation was answered: its trace is a run to a final state, and is what was written
-  module _ (n : ℕ) (x : said ≡ verdict (violation n)) where
+  module _ (n : ℕ) (x : said ≡ answered (violation n)) where
     A : Answered m budget (length hs) (length ts) (violation n)
-    A = answered m budget (length hs) (length ts) (violation n) (sym x)
+    A = answered-by m budget (length hs) (length ts) (violation n) (sym x)
 
     R : InRange (productOf m)
-    R = product-in m (A .valid-model)
+    R = product-in m (A .fits .valid-model)
 
     reaches : (c : State) × Reaches (productOf m) (steps n) c
     reaches = demands (productOf m) R .trace-reaches n (demands (productOf m) R .answer-verdict budget (violation n) (A .verdict-is) .0)
@@ -158,7 +154,7 @@ module _ {m : Model} {budget : ℕ} {hs ts room : List ℕ} {r : Traced} {hs′ 
       again : each (take k room′) loaded ≡ steps n
       again =
           let (c, (run, _)) = reaches in
-          ap (λ xs. each xs loaded) front ∙ back (steps n) (m .moves) (valid-sizes m (A .valid-model) .moves) (run-moves (productOf m) R (steps n) _ c run)
+          ap (λ xs. each xs loaded) front ∙ back (steps n) (m .moves) (valid-sizes m (A .fits .valid-model) .moves) (run-moves (productOf m) R (steps n) _ c run)
 
       as-run : (c : State) × Reaches (productOf m) (each (take k room′) loaded) c
       as-run = subst⁻¹ (λ ss. (c : State) × Reaches (productOf m) ss c) again reaches
@@ -167,7 +163,7 @@ module _ {m : Model} {budget : ℕ} {hs ts room : List ℕ} {r : Traced} {hs′ 
       as-many = ap length front ∙ length-each (steps n) stored ∙ sym y
 
   -- which answers tell of a violation
-  found : (n k : ℕ) → r ≡ Found n k → (said ≡ verdict (violation n)) × (k ≡ length (steps n)) × (k ≤ length room)
+  found : (n k : ℕ) → r ≡ Found n k → (said ≡ answered (violation n)) × (k ≡ length (steps n)) × (k ≤ length room)
   found n k e = found-by m (length room) n k said (sym (ap meaning e) ∙ O .answer)
 
   cut-begins : (n k : ℕ) → r ≡ Cut n k → room′ ≡ take (length room) (each (steps n) stored)
@@ -175,12 +171,12 @@ module _ {m : Model} {budget : ℕ} {hs ts room : List ℕ} {r : Traced} {hs′ 
       let (x, y) = cut-by m (length room) n k said (sym (ap meaning e) ∙ O .answer) (its-refusals m budget (length hs) (length ts)) in
       written n x ∙ sets-full room (each (steps n) stored) (omega (arith, length-each (steps n) stored))
 
-  spent : said ≡ decide.refused 8 (budget ∷ []) → r ≡ Spent budget
+  spent : said ≡ refused 8 (budget ∷ []) → r ≡ Spent budget
   spent e = outcome-one m budget hs ts room r (Spent budget) hs′ hs′ ts′ ts′ room′ room′ O
       (record { answer = sym (ap (tracedBy m (length room)) e); heads = O .heads; triples = O .triples; steps = O .steps }) .0
 
   module _ (more : ℕ) (l : budget ≤ more) (unspent : (b : ℕ) → r ≡ Spent b → ⊥) where
-    not-spent : said ≡ decide.refused 8 (budget ∷ []) → ⊥
+    not-spent : said ≡ refused 8 (budget ∷ []) → ⊥
     not-spent e = unspent budget (spent e)
 
     same-said : decision m more (length hs) (length ts) ≡ said
@@ -190,24 +186,20 @@ module _ {m : Model} {budget : ℕ} {hs ts room : List ℕ} {r : Traced} {hs′ 
     unfolding headsLeft triplesLeft
     as-more = record {
       answer = O .answer ∙ ap (tracedBy m (length room)) (sym same-said);
-      heads = O .heads ∙ laid (λ t. headsOf (m .symbols) (m .states) t ++ drop (headCount m) hs) hs (decides m hs ts) refl;
-      triples = O .triples ∙ laid (λ t. triplesOf (m .symbols) (m .states) t ++ drop (tripleCount m) ts) ts (decides m hs ts) refl;
+      heads = O .heads ∙ tested-same m (length hs) (length ts) _ _ _ _ (λ f. ap (λ t. headsOf (m .symbols) (m .states) t ++ drop (headCount m) hs) (sym (same f)));
+      triples = O .triples ∙ tested-same m (length hs) (length ts) _ _ _ _ (λ f. ap (λ t. triplesOf (m .symbols) (m .states) t ++ drop (tripleCount m) ts) (sym (same f)));
       steps = O .steps ∙ ap (λ a. sets room 0 (stepsBy m a)) (sym same-said);
     }
       where
-        laid : (f : Table → List ℕ) (xs : List ℕ) (b : Bool) → decides m hs ts ≡ b → cond b (f (left (productOf m) budget)) xs ≡ cond b (f (left (productOf m) more)) xs
-        laid f xs false e = refl
-        laid f xs true e =
-            let t : T (decides m hs ts) = rw e tt in
-            ap f (sym (same-left m budget (length hs) (length ts) more l not-spent
-            (and-left (valid m) (longEnough m (length hs) (length ts)) t) (and-right (valid m) (longEnough m (length hs) (length ts)) t)))
+        same : Fits m (length hs) (length ts) → left (productOf m) more ≡ left (productOf m) budget
+        same = same-left m budget (length hs) (length ts) more l not-spent
 
   pub tracing : Tracing m budget hs ts room r hs′ ts′ room′
   tracing = record {
     fits-reaches = λ n k e. let (x, y, z) = found n k e in as-run n x k y z;
     fits-replays = λ n k e stack stack′ a h l.
         let (x, y, z) = found n k e in
-        accepted-is m (take k room′) stack h .1 (A n x .valid-model, omega (arith, as-many n x k y z), as-run n x k y z);
+        accepted-is m (take k room′) stack h .1 (A n x .fits .valid-model, omega (arith, as-many n x k y z), as-run n x k y z);
     cut-begins = cut-begins;
     same-more = λ more l u r′ hs″ ts″ room″ O′. outcome-one m more hs ts room r′ r hs″ hs′ ts″ ts′ room″ room′ O′ (as-more more l u);
   }

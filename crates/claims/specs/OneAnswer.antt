@@ -6,13 +6,15 @@ use mathlib.Core.Path.{_≡_}
 use Prim.Native.Nat.{ℕ, _<_, _≤_}
 use lib.ListN.{length, take, replicate}
 use Rattle.product.specs.Lists.{over}
-use Rattle.product.specs.Facts.{head}
 use Rattle.text.specs.Split.{first, sameBytes}
 use Rattle.numbers.specs.declared.Numbers.{Numbers}
 use Rattle.numbers.specs.Field.{fieldsOf}
 use Rattle.numbers.specs.Digits.{digitsOf}
 use Rattle.table.specs.declared.Size.{Size}
-use Rattle.table.specs.Cells.{headCount, tripleCount, longEnough, headIn, tripleIn, putHead, putTriple, cleared, view}
+use Rattle.table.specs.declared.Fact.{Fact}
+use Rattle.table.specs.declared.Place.{Place}
+use Rattle.table.specs.Cells.{headCount, tripleCount, cleared, view}
+use Rattle.table.specs.Places.{factOf, placeOf, readAt, putAt}
 use Rattle.culprit.specs.declared.Goal.{Goal}
 use Rattle.culprit.specs.Culprit.{goalAs, culpritIn, cleanIn}
 use Rattle.model.specs.declared.Model.{Model}
@@ -24,6 +26,7 @@ use Rattle.model.specs.Model.{move}
 use Rattle.model.specs.Valid.{valid}
 use Rattle.lent.specs.Lending.{shapeIn, modelIn, productIn, nextBy, InByte}
 use Rattle.bits.specs.Matrix.{multiplied, image}
+use Rattle.steps.specs.Rows.{RowAt}
 use Rattle.steps.specs.Steps.{classOf, symbolOf, classSteps, statesAfter}
 use Rattle.line.specs.Line as line
 use Rattle.modelline.specs.declared.Line.{Line}
@@ -45,8 +48,7 @@ use Rattle.text.specs.Put.{placeIn, Put}
 use Rattle.kept.specs.Kept.{inTable, nextKept}
 use Rattle.closed.specs.Closed.{ruleClosed}
 use Rattle.explain.specs.declared.Counts.{Counts}
-use Rattle.explain.specs.Answers.{foundAs, rankOf}
-use Rattle.explain.specs.Search.{whyIn, byRank}
+use Rattle.explain.specs.Answers.{tableIn, searchIn, foundAs, explained}
 use Rattle.violation.specs.Bytes.{shown, violationBytes}
 use Rattle.refusal.specs.Refusal.{refusedBytes, Seeing}
 use Rattle.report.specs.Output.{checkOutput}
@@ -67,14 +69,13 @@ pub record OneAnswer : Type 0 where
   pub read-fields : (s : List ℕ) → One (λ r. r ≡ fieldsOf s)
   pub write-number : (n : ℕ) → One (λ r. r ≡ digitsOf n)
   -- table
-  pub head-at : (z : Size) (heads : List ℕ) (q g : ℕ) → One (λ r. r ≡ headIn (z .symbols) (z .states) heads q g)
-  pub triple-at : (z : Size) (triples : List ℕ) (q g e : ℕ) → One (λ r. r ≡ tripleIn (z .symbols) (z .states) triples q g e)
-  pub put-head : (z : Size) (heads : List ℕ) (q g n : ℕ) → One (λ after. after ≡ putHead (z .symbols) (z .states) heads q g n)
-  pub put-triple : (z : Size) (triples : List ℕ) (q g e n : ℕ) → One (λ after. after ≡ putTriple (z .symbols) (z .states) triples q g e n)
+  pub place-of : (z : Size) (f : Fact) → One (λ r. r ≡ placeOf (z .symbols) (z .states) (factOf f))
+  pub read : (cells : List ℕ) (p : Place) → One (λ r. r ≡ readAt cells p)
+  pub put-rank : (cells : List ℕ) (p : Place) (n : ℕ) → One (λ after. after ≡ putAt cells p n)
+  pub rank-at : (z : Size) (heads triples : List ℕ) (f : Fact) → One (λ r. r ≡ view (z .symbols) (z .states) heads triples (factOf f))
   pub clear : (cells : List ℕ) (n : ℕ) → One (λ after. after ≡ cleared n cells)
   pub head-count : (z : Size) → One (λ n. n ≡ headCount (z .symbols) (z .states))
   pub triple-count : (z : Size) → One (λ n. n ≡ tripleCount (z .symbols) (z .states))
-  pub long-enough : (z : Size) (heads triples : List ℕ) → One (λ b. b ≡ longEnough (z .symbols) (z .states) (length heads) (length triples))
   -- culprit
   pub culprit : (lent : List ℕ) (z : Size) (heads triples : List ℕ) (s a : ℕ) → One (λ f. f ≡ goalAs (culpritIn (productIn lent .final) (z .symbols) (z .states) heads triples s a))
   pub is-clean : (lent : List ℕ) (z : Size) (heads triples : List ℕ) (s a : ℕ) → One (λ b. b ≡ cleanIn (productIn lent .final) (z .symbols) (z .states) heads triples s a)
@@ -94,6 +95,7 @@ pub record OneAnswer : Type 0 where
   pub class-steps : (lent : List ℕ) → One (λ r. r ≡ classSteps (modelIn lent))
   pub class-of : (lent : List ℕ) (r : ℕ) → One (λ c. (c ≡ classOf (modelIn lent) r) × (c < 256))
   pub symbol-of : (c : ℕ) → One (λ g. (g ≡ symbolOf c) × (g < 32))
+  pub row-at : (lent : List ℕ) (r : ℕ) → One (λ row. RowAt lent r row)
   pub states-after : (lent tg : List ℕ) (r from : ℕ) → One (λ x. x ≡ statesAfter (modelIn lent) tg r from)
   -- line, modelline and listingline
   pub spells : (s w : List ℕ) → One (λ r. r ≡ line.spells s w)
@@ -122,13 +124,13 @@ pub record OneAnswer : Type 0 where
   pub put-line : (out : List ℕ) (at : ℕ) (word numbers : List ℕ) → Both (λ r after. Put out after at r (lineBytes word numbers))
   pub put-named : (out : List ℕ) (at : ℕ) (word numbers last : List ℕ) → Both (λ r after. Put out after at r (namedBytes word numbers last))
   -- kept
-  pub has-head : (z : Size) (heads : List ℕ) (q g : ℕ) → One (λ b. b ≡ inTable z heads [] (head q g))
+  pub has : (z : Size) (heads triples : List ℕ) (f : Fact) → One (λ b. b ≡ inTable z heads triples (factOf f))
   pub next-kept : (z : Size) (heads triples : List ℕ) (q : ℕ) (ρ : Rule) (n : Next) → One (λ b. b ≡ nextKept (z .states) (inTable z heads triples) q (meant ρ) (landed n))
   -- closed
   pub rule-closed : (triples heads : List ℕ) (steps : ℕ) (ρ : Rule) → One (λ b. b ≡ ruleClosed triples heads steps (meant ρ))
   -- explain
   pub explain : (lent heads triples : List ℕ) (n : Counts) (f : Goal)
-      → One (λ w. w ≡ foundAs (byRank (whyIn (productIn lent) (n .size .symbols) (n .size .states) heads triples (n .rules) (n .moves)) f (rankOf (view (n .size .symbols) (n .size .states) heads triples) f)))
+      → One (λ w. w ≡ foundAs (explained (searchIn lent n heads triples) (tableIn n heads triples) f))
   -- output
   pub front : (out : List ℕ) (k : ℕ) → One (λ part. part ≡ take k out)
   -- violation, refusal, report and rereport

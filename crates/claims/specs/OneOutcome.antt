@@ -13,7 +13,7 @@ use Rattle.printing.specs.Writing.{Writes}
 use Rattle.decide.specs.declared.Decision.{Decision}
 use Rattle.decide.specs.Decided.{Decided}
 use Rattle.recheck.specs.declared.Recheck.{Recheck}
-use Rattle.recheck.specs.Recheck.{recheck}
+use Rattle.recheck.specs.Recheck.{meaning, recheck}
 use Rattle.trace.specs.declared.Traced.{Traced}
 use Rattle.trace.specs.Outcome.{Outcome}
 use Rattle.replay.specs.declared.Replayed.{Replayed}
@@ -28,7 +28,7 @@ pub record OneOutcome : Type 0 where
       → (r ≡ r′) × (out′ ≡ out″)
   pub deciding : (m : Model) (budget : ℕ) (hs ts : List ℕ) (r r′ : Decision) (hs′ hs″ ts′ ts″ : List ℕ) → Decided m budget hs ts r hs′ ts′ → Decided m budget hs ts r′ hs″ ts″
       → (r ≡ r′) × (hs′ ≡ hs″) × (ts′ ≡ ts″)
-  pub checking : (m : Model) (hs ts : List ℕ) (r r′ : Recheck) → r ≡ recheck m hs ts → r′ ≡ recheck m hs ts → r ≡ r′
+  pub checking : (m : Model) (hs ts : List ℕ) (r r′ : Recheck) → meaning r ≡ recheck m hs ts → meaning r′ ≡ recheck m hs ts → r ≡ r′
   pub tracing : (m : Model) (budget : ℕ) (hs ts room : List ℕ) (r r′ : Traced) (hs′ hs″ ts′ ts″ room′ room″ : List ℕ)
       → Outcome m budget hs ts room r hs′ ts′ room′ → Outcome m budget hs ts room r′ hs″ ts″ room″
       → (r ≡ r′) × (hs′ ≡ hs″) × (ts′ ≡ ts″) × (room′ ≡ room″)

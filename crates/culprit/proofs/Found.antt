@@ -17,7 +17,7 @@ use Rattle.product.specs.Check.{clean}
 use Rattle.product.proofs.Ranks.{present-held}
 use Rattle.table.specs.Cells.{view}
 use Rattle.culprit.specs.First.{orElse}
-use Rattle.culprit.specs.Culprit.{onlyIf, nothing, headAt, headOf, someHead, tripleAt, someTriple, culpritIn, cleanIn}
+use Rattle.culprit.specs.Culprit.{onlyIf, nothing, ifGuilty, headOf, someHead, someTriple, culpritIn, cleanIn}
 use Rattle.culprit.proofs.First.{first-same, first-only, first-idle, find-append, find-over, find-fails}
 
 -- none is found if all fail, and not some passes
@@ -50,14 +50,14 @@ module _ (p : Product) (final : ℕ → Bool) (Q : ℕ) (states-are : p .states 
   abbrev triples : (q g : ℕ) → List Fact
   triples q g = each (upTo Q) (triple q g)
 
-  its-head : (q g : ℕ) → find P (head q g ∷ []) ≡ headAt final G Q hs q g
+  its-head : (q g : ℕ) → find P (head q g ∷ []) ≡ ifGuilty final G Q hs ts (head q g)
   its-head q g = ap (λ b. onlyIf (b && there (head q g)) (head q g)) (final-is q)
 
-  heads-found : find P (over (upTo Q) (λ q. each (upTo G) (head q))) ≡ someHead final G Q hs
+  heads-found : find P (over (upTo Q) (λ q. each (upTo G) (head q))) ≡ someHead final G Q hs ts
   heads-found =
       find-over P Q (λ q. each (upTo G) (head q))
-      ∙ first-same (λ q. find P (each (upTo G) (head q))) (headOf final G Q hs) Q λ q _.
-      find-over P G (λ g. head q g ∷ []) ∙ first-same (λ g. find P (head q g ∷ [])) (headAt final G Q hs q) G (λ g _. its-head q g)
+      ∙ first-same (λ q. find P (each (upTo G) (head q))) (headOf final G Q hs ts) Q λ q _.
+      find-over P G (λ g. head q g ∷ []) ∙ first-same (λ g. find P (head q g ∷ [])) (λ g. ifGuilty final G Q hs ts (head q g)) G (λ g _. its-head q g)
 
   -- a triple from another state or symbol is no violating one
   other-state : (q : ℕ) → (q ≡ p .start-state → ⊥) → (g e : ℕ) → P (triple q g e) ≡ false
@@ -70,13 +70,13 @@ module _ (p : Product) (final : ℕ → Bool) (Q : ℕ) (states-are : p .states 
       go true = refl
       go false = refl
 
-  its-triple : (e : ℕ) → find P (triple (p .start-state) (p .start-symbol) e ∷ []) ≡ tripleAt final G Q ts (p .start-state) (p .start-symbol) e
+  its-triple : (e : ℕ) → find P (triple (p .start-state) (p .start-symbol) e ∷ []) ≡ ifGuilty final G Q hs ts (triple (p .start-state) (p .start-symbol) e)
   its-triple e =
       let t : Fact = triple (p .start-state) (p .start-symbol) e in
       rw (eq-eqb (p .start-state) (p .start-state) refl, eq-eqb (p .start-symbol) (p .start-symbol) refl) (ap (λ b. onlyIf (b && there t) t) (final-is e))
 
   module _ (i : p .start-state < Q) (j : p .start-symbol < p .symbols) where
-    triples-found : find P (over (upTo Q) (λ q. over (upTo G) (λ g. triples q g))) ≡ someTriple final G Q ts (p .start-state) (p .start-symbol)
+    triples-found : find P (over (upTo Q) (λ q. over (upTo G) (λ g. triples q g))) ≡ someTriple final G Q hs ts (p .start-state) (p .start-symbol)
     triples-found =
         find-over P Q (λ q. over (upTo G) (λ g. triples q g))
         ∙ first-only (λ q. find P (over (upTo G) (λ g. triples q g))) Q (p .start-state) i
@@ -84,7 +84,7 @@ module _ (p : Product) (final : ℕ → Bool) (Q : ℕ) (states-are : p .states 
         ∙ find-over P G (triples (p .start-state))
         ∙ first-only (λ g. find P (triples (p .start-state) g)) G (p .start-symbol) j (λ g n. find-fails P Q (triple (p .start-state) g) (other-symbol (p .start-state) g n))
         ∙ find-over P Q (λ e. triple (p .start-state) (p .start-symbol) e ∷ [])
-        ∙ first-same (λ e. find P (triple (p .start-state) (p .start-symbol) e ∷ [])) (tripleAt final G Q ts (p .start-state) (p .start-symbol)) Q (λ e _. its-triple e)
+        ∙ first-same (λ e. find P (triple (p .start-state) (p .start-symbol) e ∷ [])) (λ e. ifGuilty final G Q hs ts (triple (p .start-state) (p .start-symbol) e)) Q (λ e _. its-triple e)
 
     pub culprit-found : culpritIn final G Q hs ts (p .start-state) (p .start-symbol) ≡ find P (cells p)
     culprit-found =

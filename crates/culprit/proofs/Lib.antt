@@ -1,3 +1,3 @@
 pub mod First
-pub mod Guilty
+pub mod Asked
 pub mod Found

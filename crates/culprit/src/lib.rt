@@ -1,45 +1,41 @@
 // The violating fact that is taken of those that the two lent arrays hold: heads before triples, then lowest state, symbol and end state.
 ghost use mathlib.Core.Path.{_≡_};
 ghost use Rattle.lent.specs.Lending.{productIn};
-ghost use Rattle.culprit.specs.Culprit.{goalAs, guiltyHead, guiltyTriple, someHead, someTriple, culpritIn, cleanIn};
+ghost use Rattle.table.specs.Places.{factOf};
+ghost use Rattle.culprit.specs.Culprit.{goalAs, endOf, guilty, someHead, someTriple, culpritIn, cleanIn};
 use lent::Lent;
+use table::Fact;
 use table::Size;
 
-// A fact whose run is asked for: a head, a triple; or none is.
+// A fact whose run is asked for; or none is.
 pub enum Goal {
     Nothing,
-    Head(usize, usize),
-    Triple(usize, usize, usize),
+    Of(Fact),
 }
 
-fn guilty_head<'a>(m: &'a Lent, heads: &'a [u16], size: Size, q: usize, g: usize) -> bool
-    ensures { λ b. ⌜ b ≡ guiltyHead (productIn (now (m .entry)) .final) (size .symbols) (size .states) (now (heads .entry)) q g ⌝ }
+// The state that a fact's run ends in.
+fn end_of(f: Fact) -> usize
+    ensures { λ q. ⌜ q ≡ endOf (factOf f) ⌝ }
 {
-    if !lent::is_final(m, q) {
-        return false;
+    match f {
+        Fact::Head(q, _) => q,
+        Fact::Triple(_, _, e) => e,
     }
-    table::head_at(heads, size, q, g) != table::ABSENT
 }
 
-fn guilty_triple<'a>(
-    m: &'a Lent,
-    triples: &'a [u16],
-    size: Size,
-    q: usize,
-    g: usize,
-    e: usize,
-) -> bool
-    ensures { λ b. ⌜ b ≡ guiltyTriple (productIn (now (m .entry)) .final) (size .symbols) (size .states) (now (triples .entry)) q g e ⌝ }
+// The fact is held, and ends in a final state.
+fn guilty<'a>(m: &'a Lent, heads: &'a [u16], triples: &'a [u16], size: Size, f: Fact) -> bool
+    ensures { λ b. ⌜ b ≡ guilty (productIn (now (m .entry)) .final) (size .symbols) (size .states) (now (heads .entry)) (now (triples .entry)) (factOf f) ⌝ }
 {
-    if !lent::is_final(m, e) {
+    if !lent::is_final(m, end_of(f)) {
         return false;
     }
-    table::triple_at(triples, size, q, g, e) != table::ABSENT
+    table::rank_at(heads, triples, size, f) != table::ABSENT
 }
 
 // The first head that is held in a final state.
-fn some_head<'a>(m: &'a Lent, heads: &'a [u16], size: Size) -> Goal
-    ensures { λ f. ⌜ f ≡ goalAs (someHead (productIn (now (m .entry)) .final) (size .symbols) (size .states) (now (heads .entry))) ⌝ }
+fn some_head<'a>(m: &'a Lent, heads: &'a [u16], triples: &'a [u16], size: Size) -> Goal
+    ensures { λ f. ⌜ f ≡ goalAs (someHead (productIn (now (m .entry)) .final) (size .symbols) (size .states) (now (heads .entry)) (now (triples .entry))) ⌝ }
 {
     let states = size.states as usize;
     let symbols = size.symbols as usize;
@@ -50,8 +46,9 @@ fn some_head<'a>(m: &'a Lent, heads: &'a [u16], size: Size) -> Goal
         }
         let mut g: usize = 0;
         'symbols: while g < symbols {
-            if guilty_head(m, heads, size, q, g) {
-                break 'found Goal::Head(q, g);
+            let f = Fact::Head(q, g);
+            if guilty(m, heads, triples, size, f) {
+                break 'found Goal::Of(f);
             }
             g += 1;
         }
@@ -60,14 +57,22 @@ fn some_head<'a>(m: &'a Lent, heads: &'a [u16], size: Size) -> Goal
 }
 
 // The first triple that is held from the state s and the symbol a into a final state.
-fn some_triple<'a>(m: &'a Lent, triples: &'a [u16], size: Size, s: usize, a: usize) -> Goal
-    ensures { λ f. ⌜ f ≡ goalAs (someTriple (productIn (now (m .entry)) .final) (size .symbols) (size .states) (now (triples .entry)) s a) ⌝ }
+fn some_triple<'a>(
+    m: &'a Lent,
+    heads: &'a [u16],
+    triples: &'a [u16],
+    size: Size,
+    s: usize,
+    a: usize,
+) -> Goal
+    ensures { λ f. ⌜ f ≡ goalAs (someTriple (productIn (now (m .entry)) .final) (size .symbols) (size .states) (now (heads .entry)) (now (triples .entry)) s a) ⌝ }
 {
     let states = size.states as usize;
     let mut e: usize = 0;
     'states: while e < states {
-        if guilty_triple(m, triples, size, s, a, e) {
-            return Goal::Triple(s, a, e);
+        let f = Fact::Triple(s, a, e);
+        if guilty(m, heads, triples, size, f) {
+            return Goal::Of(f);
         }
         e += 1;
     }
@@ -85,11 +90,10 @@ pub fn culprit<'a>(
 ) -> Goal
     ensures { λ f. ⌜ f ≡ goalAs (culpritIn (productIn (now (m .entry)) .final) (size .symbols) (size .states) (now (heads .entry)) (now (triples .entry)) s a) ⌝ }
 {
-    let f = some_head(m, heads, size);
+    let f = some_head(m, heads, triples, size);
     match f {
-        Goal::Nothing => some_triple(m, triples, size, s, a),
-        Goal::Head(q, g) => Goal::Head(q, g),
-        Goal::Triple(q, g, e) => Goal::Triple(q, g, e),
+        Goal::Nothing => some_triple(m, heads, triples, size, s, a),
+        Goal::Of(d) => Goal::Of(d),
     }
 }
 
@@ -107,7 +111,6 @@ pub fn is_clean<'a>(
     let f = culprit(m, heads, triples, size, s, a);
     match f {
         Goal::Nothing => true,
-        Goal::Head(_, _) => false,
-        Goal::Triple(_, _, _) => false,
+        Goal::Of(_) => false,
     }
 }

@@ -16,10 +16,10 @@ use Rattle.bits.specs.Bit.{bit}
 use Rattle.bits.proofs.Bit.{bit-or, bit-zero}
 use Rattle.bits.proofs.Set.{bit-pow, one-shifted}
 use Rattle.steps.specs.Steps.{symbolOf}
-use Rattle.decide.specs.declared.rows.Row.{Row}
+use Rattle.steps.specs.declared.Row.{Row}
+use Rattle.steps.specs.Rows.{kindAt, classAt, overAt, underAt, RowAt, ruleBy, rowRule}
 use Rattle.decide.specs.Sets.{member, chosen, With, Put}
-use Rattle.decide.specs.Gather.{kindAt, classAt, overAt, underAt, RowAt, Empty}
-use Rattle.decide.specs.Frame.{ruleBy, rowRule}
+use Rattle.decide.specs.Gather.{Empty}
 use Rattle.decide.specs.Turn.{UsesOf}
 use Rattle.decide.specs.Build.{UsesPut, UsesAll, ExitPut, Exits, RulePut, RulesSorted}
 use Rattle.decide.proofs.Members.{or-false}

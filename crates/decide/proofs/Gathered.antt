@@ -13,9 +13,10 @@ use lib.Bits.{bitOr}
 use Rattle.product.proofs.Lists.{or-right}
 use Rattle.bits.specs.Matrix.{entry, mat, mats, multiplied}
 use Rattle.bits.proofs.Bit.{bit-or, bit-zero}
-use Rattle.decide.specs.declared.rows.Row.{Row}
+use Rattle.steps.specs.declared.Row.{Row}
+use Rattle.steps.specs.Rows.{kindAt, RowAt}
 use Rattle.decide.specs.Sets.{chosen, With, Picked}
-use Rattle.decide.specs.Gather.{restOf, restAt, kindAt, RowAt, added, addedBy, Visits, Gains}
+use Rattle.decide.specs.Gather.{restOf, restAt, added, addedBy, Visits, Gains}
 use Rattle.decide.proofs.Members.{or-false, among-picked, among-none}
 
 -- what is run after a step

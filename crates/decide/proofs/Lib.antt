@@ -1,6 +1,5 @@
 pub mod Coincide
 pub mod Laid
-pub mod Answered
 pub mod Members
 pub mod Stamped
 pub mod Gathered

@@ -26,11 +26,11 @@ use Rattle.relations.proofs.Classes.{lands-by}
 use Rattle.relations.proofs.Quiet.{made-next}
 use Rattle.relations.proofs.Next.{ranks-next}
 use Rattle.steps.specs.Steps.{symbolOf}
-use Rattle.decide.specs.Gather.{kindAt, classAt, overAt, underAt}
+use Rattle.steps.specs.Rows.{kindAt, classAt, overAt, underAt, ruleBy}
 use Rattle.decide.specs.Sets.{chosen}
 use Rattle.decide.specs.Stamp.{of-heads, viewOf}
 use Rattle.decide.specs.Take.{Took}
-use Rattle.decide.specs.Frame.{ruleBy, Frame}
+use Rattle.decide.specs.Frame.{Frame}
 use Rattle.decide.specs.Show.{landing, shownBy, shown, shownAll, RowsFit}
 use Rattle.decide.proofs.Taking.{mat-in, mat-lt}
 use Rattle.decide.proofs.Below.{any-alike, some-alike}

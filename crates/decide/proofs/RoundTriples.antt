@@ -29,11 +29,12 @@ use Rattle.relations.proofs.Quiet.{made-next}
 use Rattle.relations.proofs.Next.{ranks-next}
 use Rattle.steps.specs.Steps.{symbolOf}
 use Rattle.steps.proofs.Laws.{symbol-low}
-use Rattle.decide.specs.Gather.{restOf, restAt, kindAt, classAt, overAt, underAt, added, addedBy, Gains}
+use Rattle.steps.specs.Rows.{kindAt, classAt, overAt, underAt, ruleBy}
+use Rattle.decide.specs.Gather.{restOf, restAt, added, addedBy, Gains}
 use Rattle.decide.specs.Stamp.{of-triples, viewOf}
 use Rattle.decide.specs.Take.{AllFit, Took, givenBy, fromClass, fromClasses}
 use Rattle.decide.specs.Sets.{chosen}
-use Rattle.decide.specs.Frame.{ruleBy, Frame}
+use Rattle.decide.specs.Frame.{Frame}
 use Rattle.decide.specs.Standing.{Stored}
 use Rattle.decide.proofs.Taking.{mat-in, mat-lt}
 use Rattle.decide.proofs.Below.{identity-at}

@@ -24,10 +24,12 @@ use Rattle.bits.proofs.Bit.{bit-or, bit-zero}
 use Rattle.bits.proofs.Set.{bit-pow, one-shifted}
 use Rattle.bits.proofs.Lowest.{lowest, lowest-set, cleared, cleared-less}
 use Rattle.bits.proofs.Image.{image-at}
-use Rattle.decide.specs.declared.rows.Row.{Row}
+use Rattle.steps.specs.declared.Row.{Row}
+use Rattle.steps.proofs.Rows.{class-at}
+use Rattle.steps.specs.Rows.{kindAt, classAt, overAt, underAt, RowAt}
 use Rattle.decide.specs.Sets.{Picked}
 use Rattle.decide.specs.Stamp.{of-heads, Entries, alone}
-use Rattle.decide.specs.Gather.{kindAt, classAt, overAt, underAt, RowAt, Empty}
+use Rattle.decide.specs.Gather.{Empty}
 use Rattle.decide.specs.Take.{Took, Room, Fits}
 use Rattle.decide.specs.Show.{landing, shownBy, shown, shownAll, Shows, RowsCover, ShowsAll, RowsFit, SettlesRows}
 use Rattle.decide.proofs.Members.{or-false, among-picked, among-none}
@@ -91,16 +93,10 @@ shows-alike m m′ {a} k s = record {
   others = s .others;
 }
 
--- the class of a row
--- a class read where the rules of a lent model lie
-pub class-at : (rs : List ℕ) (i : ℕ) → i < 256 → classOf (modelIn rs) i ≡ classAt rs i
-unfolding modelIn
-class-at rs i h = sym (class-row (modelIn rs) i h (in-part rs 0 1024 (i * 4 + 1) (4 * i + 1) (omega arith) (omega arith)))
-
 pub land-is : (rs tg hd : List ℕ) (i c g v : ℕ) → i < 256 → c ≡ classOf (modelIn rs) i → g ≡ symbolOf c → v ≡ statesAfter (modelIn rs) tg i (getD hd g 0) → v ≡ landing tg hd (classAt rs i)
 unfolding landing statesAfter
 land-is rs tg hd i c g v h c-is g-is v-is =
-    v-is ∙ ap₂ (λ g c. image (getD hd g 0) (getD tg c 0)) (g-is ∙ ap symbolOf (c-is ∙ class-at rs i h)) (class-at rs i h)
+    v-is ∙ ap₂ (λ g c. image (getD hd g 0) (getD tg c 0)) (g-is ∙ ap symbolOf (c-is ∙ class-at rs i)) (class-at rs i)
 
 some-off : (n : ℕ) (f : ℕ → Bool) → ((k : ℕ) → f k ≡ false) → some n f ≡ false
 some-off zero f h = refl

@@ -24,6 +24,7 @@ use Rattle.table.specs.Cells.{view, store, putHead, cleared, headsOf, triplesOf
 use Rattle.table.proofs.Cells.{length-cleared}
 use Rattle.table.proofs.Store.{store-head, past-head, length-head}
 use Rattle.table.proofs.LaidOut.{heads-laid, triples-laid, cleared-view, cleared-past-end}
+use Rattle.fitting.specs.Fits.{sizeOf}
 use Rattle.model.specs.declared.Model.{Model}
 use Rattle.model.specs.Model.{rule, productOf}
 use Rattle.model.specs.Valid.{valid}
@@ -33,12 +34,12 @@ use Rattle.bits.specs.Bit.{bit}
 use Rattle.bits.specs.Matrix.{mat, mats}
 use Rattle.bits.proofs.Set.{bit-pow, one-shifted}
 use Rattle.steps.specs.Steps.{symbolOf, classSteps}
+use Rattle.steps.specs.Rows.{kindAt, classAt, overAt, underAt, ruleBy}
 use Rattle.decide.specs.declared.Decision.{Decision}
 use Rattle.decide.specs.declared.Goal.{Goal}
 use Rattle.decide.specs.declared.Next.{Next}
 use Rattle.decide.specs.Sets.{member, chosen}
-use Rattle.decide.specs.Gather.{kindAt, classAt, overAt, underAt, zeros}
-use Rattle.decide.specs.Frame.{ruleBy}
+use Rattle.decide.specs.Gather.{zeros}
 use Rattle.decide.specs.Standing.{Standing, Stored, Sets}
 use Rattle.decide.specs.Turn.{UsesOf, Uses}
 use Rattle.decide.specs.Driven.{Goals, Starts, startRows, Driving, Answers, Driven}
@@ -47,7 +48,8 @@ use Rattle.decide.specs.Ran.{shapeOf, Able, Started, Ran}
 use Rattle.decide.proofs.Gathered.{mat-none}
 use Rattle.decide.proofs.Emptied.{zeros-at}
 use Rattle.decide.proofs.Choosing.{no-member, collected-cases, collected-new}
-use Rattle.decide.proofs.Framed.{SameRows, row-lent, model-frame}
+use Rattle.steps.proofs.Rows.{LiesIn, row-lent}
+use Rattle.decide.proofs.Framed.{model-frame}
 
 -- a set of one
 pub one-bit : (g : ℕ) → g < 32 → (x : ℕ) → bit ((1 * 2 ^ g) % 2 ^ 64) x ≡ eqb g x
@@ -56,9 +58,9 @@ one-bit g l x = ap (λ n. bit n x) (one-shifted 64 g (omega arith)) ∙ bit-pow 
 pub one-low : (g : ℕ) → g < 32 → (x : ℕ) → T (bit ((1 * 2 ^ g) % 2 ^ 64) x) → x < 32
 one-low g l x t = subst (λ n. n < 32) (eqb→eq g x (subst T (one-bit g l x) t)) l
 
-module _ (m : Model) (v : T (valid m)) {rs : List ℕ} (same : SameRows rs (m .rulerows)) where
+module _ (m : Model) (v : T (valid m)) {rs : List ℕ} (same : LiesIn rs m) where
   abbrev z : Size
-  z = record { symbols = m .symbols; states = m .states }
+  z = sizeOf m
 
   pub q-in : m .startstate < 8
   q-in = omega (arith, start-state-in m v, valid-sizes m v .states)

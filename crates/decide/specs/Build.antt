@@ -8,11 +8,11 @@ use lib.Dec.{T, eqb, ltb}
 use lib.ListN.{length}
 use Rattle.bits.specs.Bit.{bit}
 use Rattle.model.specs.declared.Shape.{Shape}
+use Rattle.steps.specs.Rows.{kindAt, rowRule}
 use Rattle.decide.specs.declared.Goal.{Goal}
 use Rattle.decide.specs.declared.Next.{Next}
 use Rattle.decide.specs.Sets.{member, chosen}
-use Rattle.decide.specs.Gather.{kindAt, zeros}
-use Rattle.decide.specs.Frame.{rowRule}
+use Rattle.decide.specs.Gather.{zeros}
 use Rattle.decide.specs.Turn.{UsesOf, Collected}
 
 -- rule r was put into the sets of what it needs, and no other rule into any; and the first n rules

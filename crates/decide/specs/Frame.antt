@@ -7,17 +7,7 @@ use Rattle.product.specs.Lists.{upTo}
 use Rattle.product.specs.Product.{Rule, exit, direct, call, Product}
 use Rattle.bits.specs.Matrix.{mats}
 use Rattle.relations.specs.Relations.{steps}
-use Rattle.steps.specs.Steps.{symbolOf}
-use Rattle.decide.specs.Gather.{kindAt, classAt, overAt, underAt}
-
-abbrev pub ruleBy : (kind g g1 g2 : ℕ) → Rule
-ruleBy zero g g1 g2 = exit g
-ruleBy (suc zero) g g1 g2 = direct g g1
-ruleBy (suc (suc k)) g g1 g2 = call g g1 g2
-
--- the rule of row r
-abbrev pub rowRule : List ℕ → ℕ → Rule
-rowRule rs r = ruleBy (kindAt rs r) (symbolOf (classAt rs r)) (overAt rs r) (underAt rs r)
+use Rattle.steps.specs.Rows.{classAt, rowRule}
 
 -- for Q states
 pub record Frame (p : Product) (Q : ℕ) (rs tg : List ℕ) : Type 0 where

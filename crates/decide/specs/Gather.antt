@@ -6,7 +6,7 @@ use Prim.Native.Nat.{ℕ, _+_, _*_, _%_, _<_}
 use lib.Dec.{eqb}
 use lib.ListN.{length, getD, replicate}
 use Rattle.bits.specs.Matrix.{mat, mats, multiplied}
-use Rattle.decide.specs.declared.rows.Row.{Row}
+use Rattle.steps.specs.Rows.{kindAt, classAt, overAt, underAt}
 use Rattle.decide.specs.Sets.{chosen, among}
 use Rattle.decide.specs.Stamp.{Entries}
 
@@ -15,29 +15,6 @@ unfoldable pub restOf : (kind g1 g2 : ℕ) → List ℕ → ℕ
 restOf kind g1 g2 e =
     cond (eqb kind 0) 0x8040201008040201
     (cond (eqb kind 1) (getD e g1 0) (multiplied (getD e g1 0) (getD e g2 0)))
-
--- rule i: its kind, its class and the symbols that it puts there, below 32, stand in a row of four; those not in use may be anything
-abbrev pub kindAt : List ℕ → ℕ → ℕ
-kindAt rs i = getD rs (4 * i) 0
-
-abbrev pub classAt : List ℕ → ℕ → ℕ
-classAt rs i = getD rs (4 * i + 1) 0
-
-abbrev pub overAt : List ℕ → ℕ → ℕ
-overAt rs i = getD rs (4 * i + 2) 0 % 32
-
-abbrev pub underAt : List ℕ → ℕ → ℕ
-underAt rs i = getD rs (4 * i + 3) 0 % 32
-
--- the row of rule i was read
-pub record RowAt (rs : List ℕ) (i : ℕ) (r : Row) : Type 0 where
-  pub kind-is : r .kind ≡ kindAt rs i
-  pub class-is : r .class ≡ classAt rs i
-  pub over-is : r .over ≡ overAt rs i
-  pub under-is : r .under ≡ underAt rs i
-  pub class-in : r .class < 256
-  pub over-in : r .over < 32
-  pub under-in : r .under < 32
 
 unfoldable pub restAt : List ℕ → List ℕ → ℕ → ℕ
 restAt rs e i = restOf (kindAt rs i) (overAt rs i) (underAt rs i) e

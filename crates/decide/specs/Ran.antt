@@ -13,7 +13,8 @@ use Rattle.model.specs.declared.Shape.{Shape}
 use Rattle.model.specs.Model.{productOf}
 use Rattle.model.specs.Valid.{valid}
 use Rattle.decide.specs.declared.Decision.{Decision}
-use Rattle.decide.specs.Decided.{meaning, within, headCount, tripleCount}
+use Rattle.fitting.specs.Fits.{headsOf as headCount, triplesOf as tripleCount}
+use Rattle.decide.specs.Decided.{meaning, within}
 
 -- what a model says beside its arrays
 abbrev pub shapeOf : Model → Shape

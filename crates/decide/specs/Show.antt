@@ -9,9 +9,10 @@ use Rattle.table.specs.declared.Size.{Size}
 use Rattle.bits.specs.Bit.{bit}
 use Rattle.bits.specs.Matrix.{mats, some, image}
 use Rattle.steps.specs.Steps.{symbolOf}
+use Rattle.steps.specs.Rows.{kindAt, classAt, overAt, underAt}
 use Rattle.decide.specs.Sets.{among}
 use Rattle.decide.specs.Stamp.{of-heads}
-use Rattle.decide.specs.Gather.{kindAt, classAt, overAt, underAt, Empty}
+use Rattle.decide.specs.Gather.{Empty}
 use Rattle.decide.specs.Take.{Took, Room, Fits}
 
 -- the states in which the steps of class c end, from the heads of its symbol

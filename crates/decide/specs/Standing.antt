@@ -14,11 +14,11 @@ use Rattle.bits.specs.Bit.{bit}
 use Rattle.bits.specs.Matrix.{mats}
 use Rattle.relations.specs.Quiet.{Enough}
 use Rattle.steps.specs.Steps.{symbolOf}
+use Rattle.steps.specs.Rows.{classAt}
 use Rattle.decide.specs.Stamp.{Sort, of-heads, of-triples, viewOf, cellsOf}
 use Rattle.decide.specs.Take.{Room}
 use Rattle.decide.specs.Sets.{chosen}
 use Rattle.relations.specs.Relations.{rest}
-use Rattle.decide.specs.Gather.{classAt}
 use Rattle.decide.specs.Frame.{Frame}
 
 -- after round n: the facts held in the matrices e and the rows hd, and their ranks in the two arrays

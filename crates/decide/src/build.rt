@@ -10,12 +10,12 @@ ghost use Rattle.decide.specs.Build.{RulePut, RulesSorted, First, GoalOf
 ghost use Rattle.decide.specs.Gather.{Empty};
 use crate::Goal;
 use crate::Next;
-use crate::rows::row_at;
 use crate::sets::add;
 use crate::sets::collect;
 use crate::sets::put;
 use lent::Lent;
 use model::Shape;
+use steps::row_at;
 
 // Puts rule r into the sets of the symbols whose triples or heads it needs. An exit needs none, and is put among the exits.
 fn sort_rule(rules: &Lent, r: usize, us: &mut [u64; 384], exits: &mut [u64; 4])

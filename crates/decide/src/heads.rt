@@ -1,19 +1,21 @@
 // A round of the heads: where the steps of a rule end, there is a head of what it puts on top, and of what lies under that once it is erased.
+// `round_heads` has nine parameters: six are lent, and a struct that holds a reference has no proof but one by hand (see triples.rt).
 ghost use mathlib.Core.Path.{_≡_};
 ghost use mathlib.Core.Bool.{_&&_};
 ghost use Prim.Native.Nat.{ℕ, _<_};
 ghost use lib.Dec.{eqb};
 ghost use lib.ListN.{length};
 ghost use Rattle.bits.specs.Bit.{bit};
+ghost use Rattle.steps.specs.Rows.{classAt};
 ghost use Rattle.decide.specs.Stamp.{of-heads, alone};
-ghost use Rattle.decide.specs.Gather.{classAt, Empty};
+ghost use Rattle.decide.specs.Gather.{Empty};
 ghost use Rattle.decide.specs.Take.{Took, Room, Fits};
 ghost use Rattle.decide.specs.Show.{landing, shown, shownAll, Shows, RowsCover, ShowsAll, RowsFit, SettlesRows, HeadsReady, HeadsDone};
-use crate::rows::row_at;
 use crate::sets::gain;
 use crate::sets::pick;
 use crate::stamps::stamp_heads;
 use lent::Lent;
+use steps::row_at;
 use table::Size;
 
 // The states in which the steps of rule i end, from the heads of its symbol.

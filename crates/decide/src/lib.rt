@@ -7,6 +7,7 @@ use crate::build::first_rules;
 use crate::build::goal_of;
 use lent::Lent;
 use model::Shape;
+use table::Fact;
 use table::Size;
 
 // A verdict with its rounds, or a refusal: 6, 7, and 8 with the budget.
@@ -34,7 +35,6 @@ struct Next {
     wh: [u64; 4],
 }
 
-mod rows; // the rules by their numbers
 mod sets; // sets of rules and of classes
 mod stamps; // the ranks of new facts
 mod triples; // a round of the triples
@@ -48,7 +48,8 @@ fn start(heads: &mut [u16], triples: &mut [u16], size: Size, q: usize, g: usize)
 {
     table::clear(heads, table::head_count(size));
     table::clear(triples, table::triple_count(size));
-    table::put_head(heads, size, q, g, 0);
+    let place = table::place_of(size, Fact::Head(q, g));
+    table::put(heads, place, 0);
 }
 
 // The rounds of a valid model, whose shape was asked for, in arrays that are long enough.
@@ -73,16 +74,13 @@ fn run(shape: Shape, m: &Lent, budget: u32, heads: &mut [u16], triples: &mut [u1
 pub fn decide(m: &Lent, budget: u32, heads: &mut [u16], triples: &mut [u16]) -> Decision
     ensures { λ r. ⌜ Decided (modelIn (now (m .entry))) budget (now (heads .entry)) (now (triples .entry)) r (now (heads .exit)) (now (triples .exit)) ⌝ }
 {
-    if !lent::is_valid(m) {
+    let fit = fitting::measure(m, heads.len(), triples.len());
+    if fit.refusal == 6 {
         return Decision::Invalid;
     }
-    let shape = lent::shape(m);
-    let size = Size {
-        symbols: shape.symbols,
-        states: shape.states,
-    };
-    if !table::long_enough(heads, triples, size) {
+    if fit.refusal == 7 {
         return Decision::Short;
     }
+    let shape = lent::shape(m);
     run(shape, m, budget, heads, triples)
 }

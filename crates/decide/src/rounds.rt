@@ -1,4 +1,5 @@
 // The rounds until a verdict or the end of the budget: the tests after each, and the choice of the rules for the next.
+// `run` has nine parameters: five are lent, and a struct that holds a reference has no proof but one by hand.
 ghost use mathlib.Core.Path.{_≡_};
 ghost use Prim.Native.Nat.{ℕ, _*_, _%_, _^_, _<_};
 ghost use lib.Dec.{T};

@@ -1,5 +1,6 @@
 // The ranks of new facts, put into the two lent arrays.
 ghost use Rattle.decide.specs.Stamp.{of-heads, of-triples, viewOf, Became, alone, named, ranked, Stamps};
+use table::Fact;
 use table::Size;
 
 // The triples of symbol g that stand in the matrix get the rank k. All have a cell, so that it need not be asked for each.
@@ -26,6 +27,7 @@ pub(crate) fn stamp_heads(heads: &mut [u16], size: Size, g: usize, bits: u64, k:
     while d != 0 {
         let q = u64::trailing_zeros(d) as usize;
         d = d & (d - 1);
-        table::put_head(heads, size, q, g, k);
+        let place = table::place_of(size, Fact::Head(q, g));
+        table::put(heads, place, k);
     }
 }

@@ -14,10 +14,8 @@ use Rattle.product.specs.Rounds.{works}
 use Rattle.product.proofs.Lists.{over-over}
 use Rattle.model.specs.declared.Model.{Model}
 use Rattle.model.specs.Model.{productOf}
-use Rattle.culprit.specs.declared.Goal.the-variants.{Head, Triple}
 use Rattle.culprit.specs.First.{firstOf}
 use Rattle.explain.specs.Search.{stepOf, chances, tried, triedAt, byMove, byRule, searched}
-use Rattle.culprit.specs.Culprit.{goalOf}
 use Rattle.culprit.proofs.First.{or-none, first-same, first-only, first-idle, first-steady, find-append, find-over, find-fails, find-one}
 
 -- the ways, rule by rule and move by move
@@ -36,7 +34,7 @@ module _ (h : Fact → Bool) (Q : ℕ) (s : Step) where
     abbrev P : Way → Bool
     P = works h (head q g)
 
-    by-head : (y : ℕ) (ρ : Rule) → find P (consequences (upTo Q) s x y ρ) ≡ find P (chances (Head q g) s x y ρ)
+    by-head : (y : ℕ) (ρ : Rule) → find P (consequences (upTo Q) s x y ρ) ≡ find P (chances (head q g) s x y ρ)
     by-head y (exit a) = refl
     by-head y (direct a g1) = ap (λ o. cond (P (enters s x a y g1)) (some (enters s x a y g1)) o) (find-fails P Q (backs s x a y g1) (λ e. refl))
     by-head y (call a g1 g2) = ap (λ o. cond (P (enters s x a y g1)) (some (enters s x a y g1)) o)
@@ -72,7 +70,7 @@ module _ (h : Fact → Bool) (Q : ℕ) (s : Step) where
         go false = refl
 
     module _ (some-state : 0 < Q) (in-range : e < Q) where
-      by-triple : (y : ℕ) (ρ : Rule) → find R (consequences (upTo Q) s q y ρ) ≡ firstOf (λ x. find R (chances (Triple q g e) s x y ρ)) Q
+      by-triple : (y : ℕ) (ρ : Rule) → find R (consequences (upTo Q) s q y ρ) ≡ firstOf (λ x. find R (chances (triple q g e) s x y ρ)) Q
       by-triple y (exit a) = sym (first-steady (find R (leaves s q a y ∷ [])) Q some-state)
       by-triple y (direct a g1) =
           find-one R Q e (backs s q a y g1) in-range (λ f n. not-into f n (backs s q a y g1 f) a refl) ∙ sym (first-steady (find R (backs s q a y g1 e ∷ [])) Q some-state)
@@ -89,14 +87,14 @@ StatesIn Q (triple q g e) = (q < Q) × (e < Q)
 
 module _ (m : Model) (h : Fact → Bool) where
   by-step : (f : Fact) → StatesIn (m .states) f → (r v : ℕ)
-      → find (works h f) (waysOf (productOf m) (stepOf r v)) ≡ byMove (productOf m) h (goalOf f) (m .states) r v
+      → find (works h f) (waysOf (productOf m) (stepOf r v)) ≡ byMove (productOf m) h f (m .states) r v
   by-step (head q g) l r v =
       find-over (works h (head q g)) (m .states) (λ x. waysTo (productOf m) (stepOf r v) x (productOf m .next (stepOf r v) x))
       ∙ first-same (λ x. find (works h (head q g)) (waysTo (productOf m) (stepOf r v) x (productOf m .next (stepOf r v) x)))
-      (triedAt (productOf m) h (Head q g) r v) (m .states) λ x _.
+      (triedAt (productOf m) h (head q g) r v) (m .states) λ x _.
       at x (productOf m .next (stepOf r v) x)
     where
-      at : (x : ℕ) (o : Option ℕ) → find (works h (head q g)) (waysTo (productOf m) (stepOf r v) x o) ≡ tried h (Head q g) (stepOf r v) x (ruleOf (productOf m) (stepOf r v)) o
+      at : (x : ℕ) (o : Option ℕ) → find (works h (head q g)) (waysTo (productOf m) (stepOf r v) x o) ≡ tried h (head q g) (stepOf r v) x (ruleOf (productOf m) (stepOf r v)) o
       at x none = refl
       at x (some y) = by-head h (m .states) (stepOf r v) q g l x y (ruleOf (productOf m) (stepOf r v))
   by-step (triple q g e) (l, k) r v =
@@ -108,13 +106,13 @@ module _ (m : Model) (h : Fact → Bool) where
       other x n none = refl
       other x n (some y) = elsewhere h (m .states) (stepOf r v) q g e x n y (ruleOf (productOf m) (stepOf r v))
 
-      at : (o : Option ℕ) → find (works h (triple q g e)) (waysTo (productOf m) (stepOf r v) q o) ≡ firstOf (λ x. tried h (Triple q g e) (stepOf r v) x (ruleOf (productOf m) (stepOf r v)) o) (m .states)
+      at : (o : Option ℕ) → find (works h (triple q g e)) (waysTo (productOf m) (stepOf r v) q o) ≡ firstOf (λ x. tried h (triple q g e) (stepOf r v) x (ruleOf (productOf m) (stepOf r v)) o) (m .states)
       at none = sym (first-steady none (m .states) (omega arith))
       at (some y) = by-triple h (m .states) (stepOf r v) q g e (omega arith) k y (ruleOf (productOf m) (stepOf r v))
 
   pub searched-ways : (f : Fact) → StatesIn (m .states) f
-      → searched (productOf m) h (goalOf f) (m .rules) (m .moves) (m .states) ≡ find (works h f) (ways (productOf m))
+      → searched (productOf m) h f (m .rules) (m .moves) (m .states) ≡ find (works h f) (ways (productOf m))
   searched-ways f l = sym
       (find-ways (productOf m) (works h f)
-      ∙ first-same (λ r. firstOf (λ v. find (works h f) (waysOf (productOf m) (stepOf r v))) (m .moves)) (byRule (productOf m) h (goalOf f) (m .moves) (m .states)) (m .rules) λ r _.
-      first-same (λ v. find (works h f) (waysOf (productOf m) (stepOf r v))) (byMove (productOf m) h (goalOf f) (m .states) r) (m .moves) (λ v _. by-step f l r v))
+      ∙ first-same (λ r. firstOf (λ v. find (works h f) (waysOf (productOf m) (stepOf r v))) (m .moves)) (byRule (productOf m) h f (m .moves) (m .states)) (m .rules) λ r _.
+      first-same (λ v. find (works h f) (waysOf (productOf m) (stepOf r v))) (byMove (productOf m) h f (m .states) r) (m .moves) (λ v _. by-step f l r v))

@@ -9,7 +9,8 @@ use borrow.Author.Tests.{lt-ltb, le-ltb}
 use Rattle.product.specs.Lists.{all, find}
 use Rattle.product.specs.Product as product
 use Rattle.product.specs.Product.{exit, direct, call, Step, Product}
-use Rattle.product.specs.Facts.{Fact, head, triple, Way, needs, leaves, enters, backs, returns, meets}
+use Rattle.product.specs.Facts.{Fact, head, triple, Way, needs, same, leaves, enters, backs, returns, meets}
+use Rattle.product.specs.Rounds.{works}
 use Rattle.product.specs.Table.{Table}
 use Rattle.product.proofs.Lists.{all-append}
 use Rattle.model.specs.declared.Rule.{Rule}
@@ -18,13 +19,15 @@ use Rattle.model.specs.declared.Next.the-variants.{To, Stuck}
 use Rattle.model.specs.Answers.{ruleAs, meant, nextAs, landed}
 use Rattle.model.proofs.Answers.{meant-as}
 use Rattle.model.proofs.Bounds.{landed-as}
+use Rattle.table.specs.declared.Fact as code
+use Rattle.table.specs.Places.{factOf}
 use Rattle.culprit.specs.declared.Goal.{Goal}
-use Rattle.culprit.specs.declared.Goal.the-variants.{Head, Triple, Nothing}
+use Rattle.culprit.specs.declared.Goal.the-variants.{Nothing, Of}
 use Rattle.explain.specs.declared.Cause.{Cause}
 use Rattle.explain.specs.declared.Found.{Found}
 use Rattle.explain.specs.declared.Found.the-variants.{By, Nowhere}
-use Rattle.explain.specs.Answers.{rankOf, factIn, needsOf, hasAll, firstHas, causeOf, foundAs}
-use Rattle.explain.specs.Search.{lower, stepOf, gives, explains, givenBy, source, sooner, later, chances, tried, triedAt, byMove, byRule, searched, byRank}
+use Rattle.explain.specs.Answers.{rankOf, explained, factIn, needsOf, hasAll, firstHas, causeOf, foundAs}
+use Rattle.explain.specs.Search.{lower, stepOf, givenBy, source, sooner, later, chances, tried, triedAt, byMove, byRule, searched, byRank}
 use Rattle.culprit.specs.First.{orElse, firstOf}
 use Rattle.culprit.proofs.First.{first-here, find-append}
 use Rattle.explain.proofs.Given.{found-if}
@@ -33,13 +36,11 @@ use Rattle.explain.proofs.Given.{found-if}
 module _ (t : Table) (k : ℕ) where
   pub low : (f : Goal) {r : ℕ} → r ≡ rankOf t f → r ≤ k → all (lower t (suc k)) (factIn f) ≡ true
   low Nothing e l = refl
-  low (Head q g) e l = rw (lt-ltb (t (head q g)) (suc k) (omega (arith, e)))
-  low (Triple q g x) e l = rw (lt-ltb (t (triple q g x)) (suc k) (omega (arith, e)))
+  low (Of f) e l = rw (lt-ltb (t (factOf f)) (suc k) (omega (arith, e)))
 
   pub high : (f : Goal) {r : ℕ} → r ≡ rankOf t f → k < r → all (lower t (suc k)) (factIn f) ≡ false
   high Nothing e l = absurd (omega (arith, e))
-  high (Head q g) e l = rw (le-ltb (t (head q g)) (suc k) (omega (arith, e)))
-  high (Triple q g x) e l = rw (le-ltb (t (triple q g x)) (suc k) (omega (arith, e)))
+  high (Of f) e l = rw (le-ltb (t (factOf f)) (suc k) (omega (arith, e)))
 
 -- a cause, by the tests of what it needs
 module _ (h : Fact → Bool) (c : Cause) where
@@ -77,29 +78,27 @@ first-has h (By c) b = go (all h (needsOf c))
     go false = refl
 
 -- one way: first what it gives, and then what it needs
-has-one : (h : Fact → Bool) (f : Goal) (w : Way) → needsOf (causeOf w) ≡ needs w → ifHas h (foundAs (givenBy f (w ∷ []))) ≡ foundAs (find (explains h f) (w ∷ []))
-has-one h f w e = go (gives f w) ∙ ap (λ ds. foundAs (cond (gives f w && all h ds) (some w) none)) e
+has-one : (h : Fact → Bool) (f : Fact) (w : Way) → needsOf (causeOf w) ≡ needs w → ifHas h (foundAs (givenBy f (w ∷ []))) ≡ foundAs (find (works h f) (w ∷ []))
+has-one h f w e = go (same (w .gives) f) ∙ ap (λ ds. foundAs (cond (same (w .gives) f && all h ds) (some w) none)) e
   where
     go : (b : Bool) → ifHas h (foundAs (cond b (some w) none)) ≡ foundAs (cond (b && all h (needsOf (causeOf w))) (some w) none)
     go true = found-if (all h (needsOf (causeOf w))) w
     go false = refl
 
 module _ (h : Fact → Bool) (s : Step) (x y : ℕ) where
-  has-sooner : (f : Goal) (ρ : product.Rule) → ifHas h (foundAs (givenBy f (sooner f s x y ρ))) ≡ foundAs (find (explains h f) (sooner f s x y ρ))
-  has-sooner Nothing ρ = refl
-  has-sooner (Head q g) (exit a) = refl
-  has-sooner (Head q g) (direct a g1) = has-one h (Head q g) (enters s x a y g1) refl
-  has-sooner (Head q g) (call a g1 g2) = has-one h (Head q g) (enters s x a y g1) refl
-  has-sooner (Triple q g e) (exit a) = has-one h (Triple q g e) (leaves s q a y) refl
-  has-sooner (Triple q g e) (direct a g1) = has-one h (Triple q g e) (backs s q a y g1 e) refl
-  has-sooner (Triple q g e) (call a g1 g2) = has-one h (Triple q g e) (meets s q a y g1 g2 x e) refl
+  has-sooner : (f : Fact) (ρ : product.Rule) → ifHas h (foundAs (givenBy f (sooner f s x y ρ))) ≡ foundAs (find (works h f) (sooner f s x y ρ))
+  has-sooner (head q g) (exit a) = refl
+  has-sooner (head q g) (direct a g1) = has-one h (head q g) (enters s x a y g1) refl
+  has-sooner (head q g) (call a g1 g2) = has-one h (head q g) (enters s x a y g1) refl
+  has-sooner (triple q g e) (exit a) = has-one h (triple q g e) (leaves s q a y) refl
+  has-sooner (triple q g e) (direct a g1) = has-one h (triple q g e) (backs s q a y g1 e) refl
+  has-sooner (triple q g e) (call a g1 g2) = has-one h (triple q g e) (meets s q a y g1 g2 x e) refl
 
-  has-later : (f : Goal) (ρ : product.Rule) → ifHas h (foundAs (givenBy f (later f s x y ρ))) ≡ foundAs (find (explains h f) (later f s x y ρ))
-  has-later Nothing ρ = refl
-  has-later (Head q g) (exit a) = refl
-  has-later (Head q g) (direct a g1) = refl
-  has-later (Head q g) (call a g1 g2) = has-one h (Head q g) (returns s x a y g1 g2 q) refl
-  has-later (Triple q g e) ρ = refl
+  has-later : (f : Fact) (ρ : product.Rule) → ifHas h (foundAs (givenBy f (later f s x y ρ))) ≡ foundAs (find (works h f) (later f s x y ρ))
+  has-later (head q g) (exit a) = refl
+  has-later (head q g) (direct a g1) = refl
+  has-later (head q g) (call a g1 g2) = has-one h (head q g) (returns s x a y g1 g2 q) refl
+  has-later (triple q g e) ρ = refl
 
 -- two ways, one after the other
 found-or : (o o′ : Option Way) → orFound (foundAs o) (foundAs o′) ≡ foundAs (orElse o o′)
@@ -116,7 +115,7 @@ found-some none e i = let z : _≡_ {A = ℕ} 0 1 = cc in absurd (omega arith)
 found-some (some w) e i = (w, refl, sym i ∙ e)
 
 -- a rule and a move with a free state, by the state that they lead to
-module _ (p : Product) (h : Fact → Bool) (f : Goal) (r v x : ℕ) {q : ℕ} (from : q ≡ source f x) {n : Next}
+module _ (p : Product) (h : Fact → Bool) (f : Fact) (r v x : ℕ) {q : ℕ} (from : q ≡ source f x) {n : Next}
     (read : n ≡ nextAs (p .next (stepOf r v) q)) where
   lands : p .next (stepOf r v) (source f x) ≡ landed n
   lands = sym (ap landed (read ∙ ap (λ q. nextAs (p .next (stepOf r v) q)) from) ∙ landed-as (p .next (stepOf r v) (source f x)))
@@ -132,13 +131,13 @@ module _ (p : Product) (h : Fact → Bool) (f : Goal) (r v x : ℕ) {q : ℕ} (f
       ∙ first-has h a b
       ∙ ap₂ (λ a b. orFound (ifHas h a) (ifHas h b)) one two
       ∙ ap₂ orFound (has-sooner h (stepOf r v) x y f (meant ρ)) (has-later h (stepOf r v) x y f (meant ρ))
-      ∙ found-or (find (explains h f) (sooner f (stepOf r v) x y (meant ρ))) (find (explains h f) (later f (stepOf r v) x y (meant ρ)))
-      ∙ ap foundAs (sym (find-append (explains h f) (sooner f (stepOf r v) x y (meant ρ)) (later f (stepOf r v) x y (meant ρ))))
-      ∙ ap (λ ρ. foundAs (find (explains h f) (chances f (stepOf r v) x y ρ))) (ap meant k ∙ meant-as (p .rule r))
+      ∙ found-or (find (works h f) (sooner f (stepOf r v) x y (meant ρ))) (find (works h f) (later f (stepOf r v) x y (meant ρ)))
+      ∙ ap foundAs (sym (find-append (works h f) (sooner f (stepOf r v) x y (meant ρ)) (later f (stepOf r v) x y (meant ρ))))
+      ∙ ap (λ ρ. foundAs (find (works h f) (chances f (stepOf r v) x y ρ))) (ap meant k ∙ meant-as (p .rule r))
       ∙ ap (λ o. foundAs (tried h f (stepOf r v) x (p .rule r) o)) (sym (lands ∙ ap landed i))
 
 -- the search comes to its end
-module _ (p : Product) (h : Fact → Bool) (f : Goal) (rules moves states r v x : ℕ) where
+module _ (p : Product) (h : Fact → Bool) (f : Fact) (rules moves states r v x : ℕ) where
   pub search-here : r < rules → firstOf (byRule p h f moves states) r ≡ none
       → v < moves → firstOf (byMove p h f states r) v ≡ none
       → x < states → firstOf (triedAt p h f r v) x ≡ none
@@ -150,7 +149,18 @@ module _ (p : Product) (h : Fact → Bool) (f : Goal) (rules moves states r v x 
       (first-here (byMove p h f states r) moves v w j b
       (first-here (triedAt p h f r v) states x w k e is))))
 
--- a rank above 0
-pub by-rank : (why : ℕ → Goal → Option Way) (f : Goal) (k : ℕ) → (k ≡ 0 → ⊥) → {d : Found} → d ≡ foundAs (why (suc (k - 1)) f) → d ≡ foundAs (byRank why f k)
-by-rank why f zero n e = absurd (n refl)
-by-rank why f (suc k) n e = e ∙ ap (λ k. foundAs (why k f)) (omega arith)
+-- the fact that is asked for, by its rank k
+module _ (why : ℕ → Fact → Option Way) (t : Table) {f : Goal} where
+  pub asked-none : f ≡ Nothing → Nowhere ≡ foundAs (explained why t f)
+  asked-none i = rw i
+
+  module _ {d : code.Fact} (i : f ≡ Of d) {k : ℕ} (ranked : k ≡ t (factOf d)) where
+    pub asked-start : k ≡ 0 → Nowhere ≡ foundAs (explained why t f)
+    asked-start z = rw (i, ← ranked, z)
+
+    pub asked-ranked : (k ≡ 0 → ⊥) → {w : Found} → w ≡ foundAs (why (suc (k - 1)) (factOf d)) → w ≡ foundAs (explained why t f)
+    asked-ranked n e = rw (i, ← ranked) (by-rank k n e)
+      where
+        by-rank : (k : ℕ) → (k ≡ 0 → ⊥) → {w : Found} → w ≡ foundAs (why (suc (k - 1)) (factOf d)) → w ≡ foundAs (byRank why (factOf d) k)
+        by-rank zero n e = absurd (n refl)
+        by-rank (suc k) n e = e ∙ ap (λ k. foundAs (why k (factOf d))) (omega arith)

@@ -4,14 +4,26 @@ use mathlib.Core.List.{List, [], _∷_, _++_}
 use mathlib.Core.Option.{Option, none, some}
 use Prim.Native.Nat.{ℕ}
 use Rattle.product.specs.Lists.{all}
-use Rattle.product.specs.Facts.{Fact, head, triple, Way}
+use Rattle.product.specs.Facts.{Fact, Way}
 use Rattle.product.specs.Table.{Table}
+use Rattle.table.specs.Cells.{view}
+use Rattle.table.specs.Places.{factOf}
+use Rattle.lent.specs.Lending.{productIn}
 use Rattle.culprit.specs.declared.Goal.{Goal}
-use Rattle.culprit.specs.declared.Goal.the-variants.{Head, Triple, Nothing}
+use Rattle.culprit.specs.declared.Goal.the-variants.{Nothing, Of}
 use Rattle.culprit.specs.Culprit.{goalOf}
 use Rattle.explain.specs.declared.Cause.{Cause}
 use Rattle.explain.specs.declared.Found.{Found}
 use Rattle.explain.specs.declared.Found.the-variants.{By, Nowhere}
+use Rattle.explain.specs.declared.Counts.{Counts}
+use Rattle.explain.specs.Search.{whyIn, byRank}
+
+-- the two arrays as the table of a model with the counts n; and the search for the explanation of a fact of rank k in it
+abbrev pub tableIn : Counts → (heads triples : List ℕ) → Table
+tableIn n heads triples = view (n .size .symbols) (n .size .states) heads triples
+
+abbrev pub searchIn : (lent : List ℕ) → Counts → (heads triples : List ℕ) → (k : ℕ) → Fact → Option Way
+searchIn lent n heads triples = whyIn (productIn lent) (n .size .symbols) (n .size .states) heads triples (n .rules) (n .moves)
 
 -- the first and the second fact that a list has
 abbrev pub firstIn : List Fact → Goal
@@ -35,14 +47,17 @@ foundAs (some w) = By (causeOf w)
 -- the rank of the fact that is asked for; where none is, 0
 abbrev pub rankOf : Table → Goal → ℕ
 rankOf t Nothing = 0
-rankOf t (Head q g) = t (head q g)
-rankOf t (Triple q g e) = t (triple q g e)
+rankOf t (Of f) = t (factOf f)
+
+-- its explanation, by the search `why` at its rank; where none is asked for there is none
+abbrev pub explained : (ℕ → Fact → Option Way) → Table → Goal → Option Way
+explained why t Nothing = none
+explained why t (Of f) = byRank why (factOf f) (t (factOf f))
 
 -- the facts that a cause needs; and the set h has them all
 abbrev pub factIn : Goal → List Fact
 factIn Nothing = []
-factIn (Head q g) = head q g ∷ []
-factIn (Triple q g e) = triple q g e ∷ []
+factIn (Of f) = factOf f ∷ []
 
 abbrev pub needsOf : Cause → List Fact
 needsOf c = factIn (c .before) ++ (factIn (c .first) ++ factIn (c .second))

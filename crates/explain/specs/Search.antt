@@ -1,16 +1,15 @@
 -- The search for an explanation: rule by rule, move by move, and state by state. Assumes nothing.
-use mathlib.Core.Bool.{Bool, false, _&&_}
+use mathlib.Core.Bool.{Bool}
 use mathlib.Core.List.{List, [], _∷_, _++_}
 use mathlib.Core.Option.{Option, none, some}
 use Prim.Native.Nat.{ℕ, zero, suc}
 use lib.Dec.{ltb}
-use Rattle.product.specs.Lists.{all, find}
+use Rattle.product.specs.Lists.{find}
 use Rattle.product.specs.Product.{Rule, exit, direct, call, Step, Product}
-use Rattle.product.specs.Facts.{Fact, head, triple, Way, needs, same, leaves, enters, backs, returns, meets}
+use Rattle.product.specs.Facts.{Fact, head, triple, Way, same, leaves, enters, backs, returns, meets}
+use Rattle.product.specs.Rounds.{works}
 use Rattle.product.specs.Table.{Table}
 use Rattle.table.specs.Cells.{view}
-use Rattle.culprit.specs.declared.Goal.{Goal}
-use Rattle.culprit.specs.declared.Goal.the-variants.{Head, Triple, Nothing}
 use Rattle.culprit.specs.First.{firstOf}
 
 -- the facts of rank below k, in a table and in its two arrays
@@ -23,55 +22,43 @@ below symbols states heads triples k = lower (view symbols states heads triples)
 abbrev pub stepOf : (r v : ℕ) → Step
 stepOf r v = record { by-rule = r; by-move = v }
 
--- the way gives the fact that is asked for; and it does so out of facts of the set h
-abbrev pub gives : Goal → Way → Bool
-gives Nothing w = false
-gives (Head q g) w = same (w .gives) (head q g)
-gives (Triple q g e) w = same (w .gives) (triple q g e)
-
-abbrev pub explains : (Fact → Bool) → Goal → Way → Bool
-explains h f w = gives f w && all h (needs w)
-
--- the first of some ways that gives it
-abbrev pub givenBy : Goal → List Way → Option Way
-givenBy f = find (gives f)
+-- the first of some ways that gives the fact
+abbrev pub givenBy : Fact → List Way → Option Way
+givenBy f = find (λ w. same (w .gives) f)
 
 -- The state that a step starts from, where x is the one free state: for a head the source of the step, for a triple the middle state.
-abbrev pub source : Goal → ℕ → ℕ
-source Nothing x = x
-source (Head q g) x = x
-source (Triple q g e) x = q
+abbrev pub source : Fact → ℕ → ℕ
+source (head q g) x = x
+source (triple q g e) x = q
 
 -- of the ways of the step s to the state y that may give the fact the one that comes first: a head is entered
-abbrev pub sooner : Goal → Step → (x y : ℕ) → Rule → List Way
-sooner Nothing s x y ρ = []
-sooner (Head q g) s x y (exit a) = []
-sooner (Head q g) s x y (direct a g1) = enters s x a y g1 ∷ []
-sooner (Head q g) s x y (call a g1 g2) = enters s x a y g1 ∷ []
-sooner (Triple q g e) s x y (exit a) = leaves s q a y ∷ []
-sooner (Triple q g e) s x y (direct a g1) = backs s q a y g1 e ∷ []
-sooner (Triple q g e) s x y (call a g1 g2) = meets s q a y g1 g2 x e ∷ []
+abbrev pub sooner : Fact → Step → (x y : ℕ) → Rule → List Way
+sooner (head q g) s x y (exit a) = []
+sooner (head q g) s x y (direct a g1) = enters s x a y g1 ∷ []
+sooner (head q g) s x y (call a g1 g2) = enters s x a y g1 ∷ []
+sooner (triple q g e) s x y (exit a) = leaves s q a y ∷ []
+sooner (triple q g e) s x y (direct a g1) = backs s q a y g1 e ∷ []
+sooner (triple q g e) s x y (call a g1 g2) = meets s q a y g1 g2 x e ∷ []
 
 -- and the one that comes after it: a head is returned to
-abbrev pub later : Goal → Step → (x y : ℕ) → Rule → List Way
-later Nothing s x y ρ = []
-later (Head q g) s x y (exit a) = []
-later (Head q g) s x y (direct a g1) = []
-later (Head q g) s x y (call a g1 g2) = returns s x a y g1 g2 q ∷ []
-later (Triple q g e) s x y ρ = []
+abbrev pub later : Fact → Step → (x y : ℕ) → Rule → List Way
+later (head q g) s x y (exit a) = []
+later (head q g) s x y (direct a g1) = []
+later (head q g) s x y (call a g1 g2) = returns s x a y g1 g2 q ∷ []
+later (triple q g e) s x y ρ = []
 
 -- entering before returning
-abbrev pub chances : Goal → Step → (x y : ℕ) → Rule → List Way
+abbrev pub chances : Fact → Step → (x y : ℕ) → Rule → List Way
 chances f s x y ρ = sooner f s x y ρ ++ later f s x y ρ
 
-abbrev pub chancesTo : Goal → Step → ℕ → Rule → Option ℕ → List Way
+abbrev pub chancesTo : Fact → Step → ℕ → Rule → Option ℕ → List Way
 chancesTo f s x ρ none = []
 chancesTo f s x ρ (some y) = chances f s x y ρ
 
-abbrev pub tried : (Fact → Bool) → Goal → Step → ℕ → Rule → Option ℕ → Option Way
-tried h f s x ρ o = find (explains h f) (chancesTo f s x ρ o)
+abbrev pub tried : (Fact → Bool) → Fact → Step → ℕ → Rule → Option ℕ → Option Way
+tried h f s x ρ o = find (works h f) (chancesTo f s x ρ o)
 
-module _ (p : Product) (h : Fact → Bool) (f : Goal) where
+module _ (p : Product) (h : Fact → Bool) (f : Fact) where
   -- by rule r, move v and the free state x
   abbrev pub triedAt : (r v x : ℕ) → Option Way
   triedAt r v x =
@@ -88,11 +75,11 @@ module _ (p : Product) (h : Fact → Bool) (f : Goal) where
   searched rules moves states = firstOf (byRule moves states) rules
 
 -- the explanation of a fact of rank k, in the two arrays
-abbrev pub whyIn : Product → (symbols states : ℕ) → (heads triples : List ℕ) → (rules moves : ℕ) → ℕ → Goal → Option Way
+abbrev pub whyIn : Product → (symbols states : ℕ) → (heads triples : List ℕ) → (rules moves : ℕ) → ℕ → Fact → Option Way
 whyIn p symbols states heads triples rules moves k f =
     searched p (below symbols states heads triples k) f rules moves states
 
 -- the explanation of a fact by its rank; one of rank 0 has none
-abbrev pub byRank : (ℕ → Goal → Option Way) → Goal → ℕ → Option Way
+abbrev pub byRank : (ℕ → Fact → Option Way) → Fact → ℕ → Option Way
 byRank why f zero = none
 byRank why f (suc k) = why (suc k) f

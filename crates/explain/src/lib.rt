@@ -1,12 +1,11 @@
 // The explanation of a fact in a table of ranks: the first rule, then the first move, then the lowest state whose needed facts all have lower rank.
 ghost use mathlib.Core.Path.{_≡_};
 ghost use Prim.Native.Nat.{suc};
-ghost use Rattle.table.specs.Cells.{view};
-ghost use Rattle.lent.specs.Lending.{productIn};
-ghost use Rattle.explain.specs.Answers.{foundAs, rankOf};
-ghost use Rattle.explain.specs.Search.{whyIn, byRank};
+ghost use Rattle.table.specs.Places.{factOf};
+ghost use Rattle.explain.specs.Answers.{tableIn, searchIn, foundAs, explained};
 use culprit::Goal;
 use lent::Lent;
+use table::Fact;
 use table::Size;
 
 mod ways; // the ways in which a step may give a fact
@@ -33,23 +32,18 @@ pub enum Found {
     Nowhere,
 }
 
-// A step that is tried: its rule and move, the one free state, and the state that it leads to.
+// What is asked: the fact, in a table of this size, and the rank that what it needs may have at most.
+struct Ask {
+    size: Size,
+    f: Fact,
+    k: u16,
+}
+
+// A step that is tried: its rule and move, and the one free state.
 struct Step {
     rule: usize,
     by: usize,
     free: usize,
-    to: usize,
-}
-
-// The rank of the fact that is asked for; where none is, 0.
-fn rank_of<'a>(heads: &'a [u16], triples: &'a [u16], size: Size, f: Goal) -> u16
-    ensures { λ k. ⌜ k ≡ rankOf (view (size .symbols) (size .states) (now (heads .entry)) (now (triples .entry))) f ⌝ }
-{
-    match f {
-        Goal::Nothing => 0,
-        Goal::Head(q, g) => table::head_at(heads, size, q, g),
-        Goal::Triple(q, g, e) => table::triple_at(triples, size, q, g, e),
-    }
 }
 
 // By the first rule, then the first move, then the lowest state whose needed facts all have rank at most k.
@@ -58,15 +52,16 @@ fn first_cause<'a>(
     heads: &'a [u16],
     triples: &'a [u16],
     n: Counts,
+    f: Fact,
     k: u16,
-    f: Goal,
 ) -> Found
-    ensures { λ w. ⌜ w ≡ foundAs (whyIn (productIn (now (m .entry))) (n .size .symbols) (n .size .states) (now (heads .entry)) (now (triples .entry)) (n .rules) (n .moves) (suc k) f) ⌝ }
+    ensures { λ w. ⌜ w ≡ foundAs (searchIn (now (m .entry)) n (now (heads .entry)) (now (triples .entry)) (suc k) (factOf f)) ⌝ }
 {
     let size = n.size;
     let states = size.states as usize;
     let rule_count = n.rules;
     let move_count = n.moves;
+    let ask = Ask { size, f, k };
     let mut r: usize = 0;
     'found: loop {
         if rule_count <= r {
@@ -76,7 +71,12 @@ fn first_cause<'a>(
         'moves: while v < move_count {
             let mut x: usize = 0;
             'states: while x < states {
-                let w = why::tried(m, heads, triples, size, k, f, r, v, x);
+                let s = Step {
+                    rule: r,
+                    by: v,
+                    free: x,
+                };
+                let w = why::tried(m, heads, triples, ask, s);
                 if let Found::By(c) = w {
                     break 'found Found::By(c);
                 }
@@ -88,14 +88,17 @@ fn first_cause<'a>(
     }
 }
 
-// The explanation of a fact; one of rank 0 has none.
+// The explanation of the fact that is asked for, if one is; a fact of rank 0 has none.
 pub fn explain<'a>(m: &'a Lent, heads: &'a [u16], triples: &'a [u16], n: Counts, f: Goal) -> Found
-    ensures { λ w. ⌜ w ≡ foundAs (byRank (whyIn (productIn (now (m .entry))) (n .size .symbols) (n .size .states) (now (heads .entry)) (now (triples .entry)) (n .rules) (n .moves)) f (rankOf (view (n .size .symbols) (n .size .states) (now (heads .entry)) (now (triples .entry))) f)) ⌝ }
+    ensures { λ w. ⌜ w ≡ foundAs (explained (searchIn (now (m .entry)) n (now (heads .entry)) (now (triples .entry))) (tableIn n (now (heads .entry)) (now (triples .entry))) f) ⌝ }
 {
+    let Goal::Of(d) = f else {
+        return Found::Nowhere;
+    };
     let size = n.size;
-    let k = rank_of(heads, triples, size, f);
+    let k = table::rank_at(heads, triples, size, d);
     if k == 0 {
         return Found::Nowhere;
     }
-    first_cause(m, heads, triples, n, k - 1, f)
+    first_cause(m, heads, triples, n, d, k - 1)
 }

@@ -2,16 +2,29 @@
 ghost use mathlib.Core.Path.{_≡_};
 ghost use Prim.Native.Nat.{suc};
 ghost use Rattle.lent.specs.Lending.{productIn};
-ghost use Rattle.explain.specs.Answers.{foundAs, hasAll, firstHas};
+ghost use Rattle.table.specs.Cells.{view};
+ghost use Rattle.table.specs.Places.{factOf};
+ghost use Rattle.explain.specs.Answers.{foundAs, rankOf, hasAll, firstHas};
 ghost use Rattle.explain.specs.Search.{below, source, triedAt};
+use crate::Ask;
 use crate::Found;
 use crate::Step;
-use crate::rank_of;
 use crate::ways;
 use culprit::Goal;
 use lent::Lent;
 use model::Next;
+use table::Fact;
 use table::Size;
+
+// The rank of the fact that is needed; where none is, 0.
+fn rank_of<'a>(heads: &'a [u16], triples: &'a [u16], size: Size, f: Goal) -> u16
+    ensures { λ k. ⌜ k ≡ rankOf (view (size .symbols) (size .states) (now (heads .entry)) (now (triples .entry))) f ⌝ }
+{
+    match f {
+        Goal::Nothing => 0,
+        Goal::Of(d) => table::rank_at(heads, triples, size, d),
+    }
+}
 
 // There is a cause, and all that it needs has rank at most k. What is not needed has rank 0.
 fn is_lower<'a>(heads: &'a [u16], triples: &'a [u16], size: Size, k: u16, w: Found) -> bool
@@ -56,44 +69,29 @@ fn first_lower<'a>(
 }
 
 // The state that the step starts from, where x is the one free state: for a triple its own.
-fn source(f: Goal, x: usize) -> usize
-    ensures { λ q. ⌜ q ≡ source f x ⌝ }
+fn source(f: Fact, x: usize) -> usize
+    ensures { λ q. ⌜ q ≡ source (factOf f) x ⌝ }
 {
     match f {
-        Goal::Nothing => x,
-        Goal::Head(_, _) => x,
-        Goal::Triple(q, _, _) => q,
+        Fact::Head(_, _) => x,
+        Fact::Triple(q, _, _) => q,
     }
 }
 
-// Rule r and move v, with the free state x.
-pub fn tried<'a>(
-    m: &'a Lent,
-    heads: &'a [u16],
-    triples: &'a [u16],
-    size: Size,
-    k: u16,
-    f: Goal,
-    r: usize,
-    v: usize,
-    x: usize,
-) -> Found
-    ensures { λ w. ⌜ w ≡ foundAs (triedAt (productIn (now (m .entry))) (below (size .symbols) (size .states) (now (heads .entry)) (now (triples .entry)) (suc k)) f r v x) ⌝ }
+// The step tried for what is asked.
+pub fn tried<'a>(m: &'a Lent, heads: &'a [u16], triples: &'a [u16], ask: Ask, s: Step) -> Found
+    ensures { λ w. ⌜ w ≡ foundAs (triedAt (productIn (now (m .entry))) (below (ask .size .symbols) (ask .size .states) (now (heads .entry)) (now (triples .entry)) (suc (ask .k))) (factOf (ask .f)) (s .rule) (s .by) (s .free)) ⌝ }
 {
-    let next = lent::next_state(m, r, v, source(f, x));
+    let f = ask.f;
+    let next = lent::next_state(m, s.rule, s.by, source(f, s.free));
     match next {
         Next::Stuck => Found::Nowhere,
         Next::To(y) => {
-            let s = Step {
-                rule: r,
-                by: v,
-                free: x,
-                to: y,
-            };
-            let rule = lent::rule_at(m, r);
-            let first = ways::first(s, rule, f);
-            let second = ways::second(s, rule, f);
-            first_lower(heads, triples, size, k, first, second)
+            let rule = lent::rule_at(m, s.rule);
+            let first = ways::first(s, y, rule, f);
+            let second = ways::second(s, y, rule, f);
+            let size = ask.size;
+            first_lower(heads, triples, size, ask.k, first, second)
         }
     }
 }

@@ -1,7 +1,9 @@
 -- What a call with a model and a table tests first: the record (refusal 6), then the length of the two arrays (7). Assumes nothing.
+use mathlib.Core.List.{[], _∷_}
 use Prim.Native.Nat.{ℕ, _≤_}
 use lib.Dec.{T, ltb}
 use Rattle.text.specs.Split.{pick}
+use Rattle.product.specs.Answer.{Answer, refused}
 use Rattle.table.specs.declared.Size.{Size}
 use Rattle.table.specs.Cells.{headCount, tripleCount}
 use Rattle.model.specs.declared.Model.{Model}
@@ -24,13 +26,17 @@ abbrev pub tested : {A : Type 0} → Model → (heads triples : ℕ) → (invali
 tested m heads triples invalid short well =
     pick (valid m) (pick (ltb heads (headsOf m)) short (pick (ltb triples (triplesOf m)) short well)) invalid
 
+-- by the document's numbers: 6, then 7, and else the answer
+abbrev pub guarded : {A : Type 0} → Model → (heads triples : ℕ) → Answer A → Answer A
+guarded m heads triples well = tested m heads triples (refused 6 (0 ∷ [])) (refused 7 (0 ∷ [])) well
+
 -- the number of the refusal, or the size and the numbers of cells
-abbrev pub refused : ℕ → Fit
-refused n = record { refusal = n; size = record { symbols = 0; states = 0 }; heads = 0; triples = 0 }
+abbrev pub unfit : ℕ → Fit
+unfit n = record { refusal = n; size = record { symbols = 0; states = 0 }; heads = 0; triples = 0 }
 
 abbrev pub fitOf : Model → (heads triples : ℕ) → Fit
 fitOf m heads triples =
-    tested m heads triples (refused 6) (refused 7) (record { refusal = 0; size = sizeOf m; heads = headsOf m; triples = triplesOf m })
+    tested m heads triples (unfit 6) (unfit 7) (record { refusal = 0; size = sizeOf m; heads = headsOf m; triples = triplesOf m })
 
 -- the model is valid, and arrays of so many cells are long enough for its table
 pub record Fits (m : Model) (heads triples : ℕ) : Type 0 where

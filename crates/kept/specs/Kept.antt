@@ -14,12 +14,16 @@ use Rattle.table.specs.Cells.{view}
 abbrev pub inTable : Size → (heads triples : List ℕ) → Fact → Bool
 inTable z hs ts = present (view (z .symbols) (z .states) hs ts)
 
+-- the fact f, if present, is passed on to the fact d
+abbrev pub passes : (Fact → Bool) → (f d : Fact) → Bool
+passes t f d = not (t f) || t d
+
 -- from (q, g) to (q′, g1): the head is passed on, and a triple passed back
 abbrev pub headPasses : (Fact → Bool) → (q g q′ g1 : ℕ) → Bool
-headPasses t q g q′ g1 = not (t (head q g)) || t (head q′ g1)
+headPasses t q g q′ g1 = passes t (head q g) (head q′ g1)
 
 abbrev pub triplePasses : (Fact → Bool) → (q g q′ g1 e : ℕ) → Bool
-triplePasses t q g q′ g1 e = not (t (triple q′ g1 e)) || t (triple q g e)
+triplePasses t q g q′ g1 e = passes t (triple q′ g1 e) (triple q g e)
 
 abbrev pub triplesPass : (states : ℕ) → (Fact → Bool) → (q g q′ g1 : ℕ) → Bool
 triplesPass states t q g q′ g1 = all (triplePasses t q g q′ g1) (upTo states)

@@ -1,4 +1,4 @@
-// A model as one lent array: those who have it ask by it. Only `steps`, and the engine's rows of rules, read its cells. specs/Lending.antt says which record it is.
+// A model as one lent array: those who have it ask by it, and only `steps` beside this crate reads its cells. specs/Lending.antt says which record it is.
 ghost use mathlib.Core.Path.{_≡_};
 ghost use Prim.Native.Nat.{_+_, _*_, _≤_, _<_};
 ghost use lib.ListN.{replicate};

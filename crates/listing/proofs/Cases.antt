@@ -1,10 +1,15 @@
 -- What the public call answers and leaves, case by case. Assumes nothing.
-use mathlib.Core.Path.{_≡_, sym, ap, _∙_}
-use mathlib.Core.List.{List}
+use mathlib.Core.Bool.{Bool, true, false, cond}
+use mathlib.Core.Path.{_≡_, refl, sym, ap, _∙_, subst⁻¹}
+use mathlib.Core.List.{List, [], _∷_}
 use Prim.Native.Nat.{ℕ, _≤_}
 use native.Mathlib.Omega.{arith}
+use lib.Dec.{eqb}
 use lib.ListN.{length, replicate}
-use borrow.Author.Tests.{eq-eqb, ne-eqb}
+use borrow.Author.Tests.{eq-eqb, ne-eqb, eqb-true, eqb-false}
+use Rattle.text.specs.Split.{pick}
+use Rattle.product.specs.Answer.{Answer, answered, refused}
+use Rattle.product.proofs.Answer.{apart}
 use Rattle.model.specs.declared.Model.{Model}
 use Rattle.model.proofs.Bounds.{few-heads, few-triples}
 use Rattle.fitting.specs.declared.Fit.{Fit}
@@ -14,22 +19,58 @@ use Rattle.fitting.proofs.Tested.{is-invalid, is-short, is-well, heads-are, tri
 use Rattle.product.specs.Table.{absent}
 use Rattle.rows.specs.State.{Ended, before}
 use Rattle.rows.specs.Lines.{startState, readText}
-use Rattle.listing.specs.Reading.{linesOf, refusedAs, answerOf, filled, headsLeft, triplesLeft, Reads}
+use Rattle.rows.proofs.Refusals.{Refusals, text-of}
+use Rattle.listing.specs.Reading.{meaning, linesOf, refusedAs, answerOf, filled, headsLeft, triplesLeft, Reads}
 use Rattle.listing.specs.declared.ListingRead.{ListingRead}
-use Rattle.listing.specs.declared.ListingRead.the-variants.{Accepted, Invalid, Short}
+use Rattle.listing.specs.declared.ListingRead.the-variants.{Accepted, Invalid, Short, TooLong, Malformed, Misplaced, OutOfRange}
+
+-- the answer that has a meaning
+abbrev meant : Answer ℕ → ListingRead
+meant (answered rounds) = Accepted rounds
+meant (refused n []) = Invalid
+meant (refused n (line ∷ _)) = cond (eqb n 6) Invalid (cond (eqb n 7) Short (cond (eqb n 1) TooLong (cond (eqb n 2) (Malformed line) (cond (eqb n 3) (Misplaced line) (OutOfRange line)))))
+
+meant-meaning : (r : ListingRead) → meant (meaning r) ≡ r
+meant-meaning (Accepted rounds) = refl
+meant-meaning Invalid = refl
+meant-meaning Short = refl
+meant-meaning TooLong = refl
+meant-meaning (Malformed line) = refl
+meant-meaning (Misplaced line) = refl
+meant-meaning (OutOfRange line) = refl
+
+pub meaning-one : (r r′ : ListingRead) → meaning r ≡ meaning r′ → r ≡ r′
+meaning-one = apart meant meant-meaning
+
+four : (n : ℕ) → n ≤ 4 → (n ≡ 0 → ⊥) → (n ≡ 1 → ⊥) → (n ≡ 2 → ⊥) → (n ≡ 3 → ⊥) → n ≡ 4
+four n l a b c d = omega arith
+
+-- of a text's refusals, the code's answer for a number and a line means these
+refused-means : (e : Ended) → Refusals e → (e .refusal ≡ 0 → ⊥) → meaning (refusedAs (e .refusal) (e .line)) ≡ refused (e .refusal) (e .line ∷ [])
+unfolding refusedAs
+refused-means e h z = go (eqb (e .refusal) 1) refl (eqb (e .refusal) 2) refl (eqb (e .refusal) 3) refl
+  where
+    go : (a : Bool) → eqb (e .refusal) 1 ≡ a → (b : Bool) → eqb (e .refusal) 2 ≡ b → (c : Bool) → eqb (e .refusal) 3 ≡ c
+        → meaning (pick a TooLong (pick b (Malformed (e .line)) (pick c (Misplaced (e .line)) (OutOfRange (e .line))))) ≡ refused (e .refusal) (e .line ∷ [])
+    go true i b j c k = let n = eqb-true (e .refusal) 1 i in rw (n, h .no-line n)
+    go false i true j c k = rw (eqb-true (e .refusal) 2 j)
+    go false i false j true k = rw (eqb-true (e .refusal) 3 k)
+    go false i false j false k =
+        let n : e .refusal ≡ 4 = four (e .refusal) (h .small) z (eqb-false (e .refusal) 1 i) (eqb-false (e .refusal) 2 j) (eqb-false (e .refusal) 3 k) in
+        rw n
 
 -- a record or an array that is refused, by its number
 module _ (m : Model) (text hs ts : List ℕ) {f : Fit} (e : f ≡ fitOf m (length hs) (length ts)) where
   pub invalid-reads : f .refusal ≡ 6 → Reads m text hs ts hs ts Invalid
   invalid-reads n = record {
-    answers = sym (is-invalid m (length hs) (length ts) e n _ _ _);
+    answer = sym (is-invalid m (length hs) (length ts) e n _ _ _);
     heads-left = sym (is-invalid m (length hs) (length ts) e n _ _ _);
     triples-left = sym (is-invalid m (length hs) (length ts) e n _ _ _);
   }
 
   pub short-reads : f .refusal ≡ 7 → Reads m text hs ts hs ts Short
   short-reads n = record {
-    answers = sym (is-short m (length hs) (length ts) e n _ _ _);
+    answer = sym (is-short m (length hs) (length ts) e n _ _ _);
     heads-left = sym (is-short m (length hs) (length ts) e n _ _ _);
     triples-left = sym (is-short m (length hs) (length ts) e n _ _ _);
   }
@@ -42,16 +83,17 @@ lines-read m text is p = p ∙ ap (λ z. readText z (before (replicate 256 absen
 
 -- else the text is read
 module _ (m : Model) (text hs ts : List ℕ) (f : Fits m (length hs) (length ts)) {e : Ended} (is : e ≡ linesOf m text) where
-  read : {hs′ ts′ : List ℕ} {r : ListingRead} → r ≡ answerOf e → hs′ ≡ headsLeft m e hs → ts′ ≡ triplesLeft m e ts → Reads m text hs ts hs′ ts′ r
+  read : {hs′ ts′ : List ℕ} {r : ListingRead} → meaning r ≡ answerOf e → hs′ ≡ headsLeft m e hs → ts′ ≡ triplesLeft m e ts → Reads m text hs ts hs′ ts′ r
   read a b c = record {
-    answers = a ∙ ap answerOf is ∙ sym (tested-well m (length hs) (length ts) f _ _ _);
+    answer = a ∙ ap answerOf is ∙ sym (tested-well m (length hs) (length ts) f _ _ _);
     heads-left = b ∙ ap (λ x. headsLeft m x hs) is ∙ sym (tested-well m (length hs) (length ts) f _ _ _);
     triples-left = c ∙ ap (λ x. triplesLeft m x ts) is ∙ sym (tested-well m (length hs) (length ts) f _ _ _);
   }
 
   pub refused-reads : (e .refusal ≡ 0 → ⊥) → {r : ListingRead} → r ≡ refusedAs (e .refusal) (e .line) → Reads m text hs ts hs ts r
   unfolding answerOf headsLeft triplesLeft
-  refused-reads z p = read (p ∙ rw (ne-eqb _ _ z)) (rw (ne-eqb _ _ z)) (rw (ne-eqb _ _ z))
+  refused-reads z p =
+      read (ap meaning p ∙ refused-means e (subst⁻¹ Refusals is (text-of (sizeOf m) startState text)) z ∙ rw (ne-eqb _ _ z)) (rw (ne-eqb _ _ z)) (rw (ne-eqb _ _ z))
 
   pub accepted-reads : e .refusal ≡ 0 → {hs′ ts′ : List ℕ} → hs′ ≡ filled (headsOf m) (e .state .headcells) hs → ts′ ≡ filled (triplesOf m) (e .state .triplecells) ts
       → Reads m text hs ts hs′ ts′ (Accepted (e .state .rounds))

@@ -5,31 +5,35 @@ use mathlib.Core.Option.{none, some}
 use Prim.Native.Nat.{ℕ}
 use lib.ListN.{length, replicate}
 use Rattle.product.specs.Lists.{over, each}
+use Rattle.product.specs.Answer.{Answer, answered, refused, Acceptance, accepted}
 use Rattle.product.specs.Product.{stored, loaded}
 use Rattle.product.specs.Facts.{Fact, triple, same}
 use Rattle.product.specs.Rounds.{held}
 use Rattle.product.specs.Verdict.{Verdict, violation, safe, answer}
 use Rattle.product.specs.Trace.{traceOf}
-use Rattle.product.specs.Replay.{replays, stops, replay}
-use Rattle.product.specs.Check.{passes, fails, checked}
+use Rattle.product.specs.Replay.{replay, replayAnswer}
+use Rattle.product.specs.Check.{checked, checkAnswer}
 use Rattle.model.specs.declared.Model.{Model}
 use Rattle.model.specs.Model.{productOf}
-use Rattle.model.specs.Valid.{valid}
 
--- a verdict with the stored numbers of its trace, an acceptance, or a refusal with its number and what is returned with it
+-- a verdict with the stored numbers of its trace, or an acceptance
 pub data Outcome : Type 0 where
   decides : Verdict → List ℕ → Outcome
-  accepted : Outcome
-  refused : ℕ → List ℕ → Outcome
+  accepts : Acceptance → Outcome
 
-abbrev pub deciding : Model → ℕ → Outcome
-deciding m budget = elim (answer (productOf m) budget) [ none ↦ refused 8 (budget ∷ []) | some v ↦ decides v (each (traceOf (productOf m) v) stored) ]
+abbrev pub deciding : Model → ℕ → Answer Outcome
+deciding m budget = elim (answer (productOf m) budget) [ none ↦ refused 8 (budget ∷ []) | some v ↦ answered (decides v (each (traceOf (productOf m) v) stored)) ]
 
-abbrev pub checking : Model → (Fact → Bool) → Outcome
-checking m t = elim (checked (productOf m) t) [ passes ↦ accepted | fails reason r v ↦ refused 11 (reason ∷ r ∷ v ∷ []) ]
+-- what a call that accepts or refuses answers
+abbrev pub accepting : Answer Acceptance → Answer Outcome
+accepting (answered a) = answered (accepts a)
+accepting (refused number values) = refused number values
 
-abbrev pub replaying : Model → List ℕ → Outcome
-replaying m ns = elim (replay (productOf m) (each ns loaded)) [ replays ↦ accepted | stops k ↦ refused 12 (k ∷ []) ]
+abbrev pub checking : Model → (Fact → Bool) → Answer Outcome
+checking m t = accepting (checkAnswer (checked (productOf m) t))
+
+abbrev pub replaying : Model → List ℕ → Answer Outcome
+replaying m ns = accepting (replayAnswer (replay (productOf m) (each ns loaded)))
 
 -- A model that starts in state 0 over symbol 0, by its sizes, final states, shown events, and the rows of its rules and moves. What comes after them
 -- in the record's arrays is left out: it says nothing.
@@ -94,30 +98,30 @@ tableB = held (productOf modelB) 4
 
 -- what is given, and what is said
 pub record Case : Type 0 where
-  pub given : Outcome
-  pub said : Outcome
+  pub given : Answer Outcome
+  pub said : Answer Outcome
 
 infix 5 _is_
-abbrev pub _is_ : Outcome → Outcome → Case
+abbrev pub _is_ : Answer Outcome → Answer Outcome → Case
 given is said = record { given = given; said = said }
 
 unfoldable pub cases : List Case
 cases =
-    (deciding modelA 24 is decides (violation 2) (0 ∷ 129 ∷ []))
-    ∷ (deciding modelB 24 is decides (safe 4) [])
+    (deciding modelA 24 is answered (decides (violation 2) (0 ∷ 129 ∷ [])))
+    ∷ (deciding modelB 24 is answered (decides (safe 4) []))
     ∷ (deciding modelA 1 is refused 8 (1 ∷ []))
     ∷ (deciding modelB 3 is refused 8 (3 ∷ []))
-    ∷ (deciding modelB 4 is decides (safe 4) [])
-    ∷ (deciding oneExit 6 is decides (violation 1) (0 ∷ []))
-    ∷ (deciding startFinal 0 is decides (violation 0) [])
-    ∷ (deciding least 2 is decides (safe 1) [])
-    ∷ (deciding leastExit 2 is decides (safe 2) [])
-    ∷ (deciding withoutMove 24 is decides (safe 1) [])
-    ∷ (checking modelB tableB is accepted)
+    ∷ (deciding modelB 4 is answered (decides (safe 4) []))
+    ∷ (deciding oneExit 6 is answered (decides (violation 1) (0 ∷ [])))
+    ∷ (deciding startFinal 0 is answered (decides (violation 0) []))
+    ∷ (deciding least 2 is answered (decides (safe 1) []))
+    ∷ (deciding leastExit 2 is answered (decides (safe 2) []))
+    ∷ (deciding withoutMove 24 is answered (decides (safe 1) []))
+    ∷ (checking modelB tableB is answered (accepts accepted))
     ∷ (checking modelB (λ f. tableB f && not (same f (triple 0 2 0))) is refused 11 (3 ∷ 1 ∷ 0 ∷ []))
     ∷ (checking modelB (λ f. tableB f || same f (triple 0 1 0)) is refused 11 (3 ∷ 0 ∷ 0 ∷ []))
-    ∷ (checking modelB (λ f. tableB f || same f (triple 0 1 0) || same f (triple 0 0 0)) is accepted)
-    ∷ (replaying modelA (0 ∷ 129 ∷ []) is accepted)
+    ∷ (checking modelB (λ f. tableB f || same f (triple 0 1 0) || same f (triple 0 0 0)) is answered (accepts accepted))
+    ∷ (replaying modelA (0 ∷ 129 ∷ []) is answered (accepts accepted))
     ∷ (replaying modelA (0 ∷ []) is refused 12 (2 ∷ []))
     ∷ []
 

@@ -1,14 +1,16 @@
 -- The header and the whole listing as they are put, and what the public call answers in each case. Assumes nothing.
-use mathlib.Core.Path.{_≡_, ap₂, sym, _∙_, subst, subst⁻¹}
-use mathlib.Core.Bool.{true, false}
+use mathlib.Core.Path.{_≡_, refl, ap₂, sym, _∙_, subst, subst⁻¹}
+use mathlib.Core.Bool.{true, false, cond}
 use mathlib.Core.List.{List, [], _∷_, _++_}
-use Prim.Native.Nat.{ℕ, zero, suc, _*_, _<_, _≤_}
+use Prim.Native.Nat.{ℕ, zero, suc, _<_, _≤_}
 use native.Mathlib.Omega.{arith}
 use lib.Dec.{eqb}
 use lib.ListN.{length, getD, length-append}
 use borrow.Author.Tests.{lt-ltb, le-ltb}
 use Rattle.text.specs.Split.{pick}
+use Rattle.product.specs.Answer.{Answer, answered, refused}
 use Rattle.product.specs.Table.{absent}
+use Rattle.product.proofs.Answer.{apart}
 use Rattle.product.proofs.Lists.{T-true, over-suc}
 use Rattle.listingline.specs.Line.{safe}
 use Rattle.table.specs.declared.Size.{Size}
@@ -19,7 +21,7 @@ use Rattle.printing.specs.declared.Kind.the-variants.{Head, Triple}
 use Rattle.printing.specs.declared.Written.{Written}
 use Rattle.printing.specs.declared.Written.the-variants.{Invalid, Short, Bytes, Cut}
 use Rattle.printing.specs.Listing.{lineBytes, presentIn, cellsBytes, headerBytes, listingBytes}
-use Rattle.printing.specs.Writing.{Writes, Rows, Whole, bytesOf, fitted}
+use Rattle.printing.specs.Writing.{Listed, bytes, cut, meaning, Writes, Rows, Whole, bytesOf, fitted}
 use Rattle.fitting.specs.declared.Fit.{Fit}
 use Rattle.fitting.specs.Fits.{sizeOf, fitOf, Fits}
 use Rattle.fitting.proofs.Tested.{cells-fit, heads-are, triples-are, size-is, is-invalid, is-short, is-well, tested-well}
@@ -70,13 +72,28 @@ module _ (rounds : ℕ) (hs : List ℕ) (h : ℕ) (ts : List ℕ) (t : ℕ) wher
       at (suc (suc zero)) = omega (arith, present-few ts t)
       at (suc (suc (suc j))) = omega arith
 
+-- the answer that has a meaning
+abbrev meant : Answer Listed → Written
+meant (answered (bytes n)) = Bytes n
+meant (answered cut) = Cut
+meant (refused n vs) = cond (eqb n 6) Invalid Short
+
+meant-meaning : (r : Written) → meant (meaning r) ≡ r
+meant-meaning Invalid = refl
+meant-meaning Short = refl
+meant-meaning (Bytes n) = refl
+meant-meaning Cut = refl
+
+pub meaning-one : (r r′ : Written) → meaning r ≡ meaning r′ → r ≡ r′
+meaning-one = apart meant meant-meaning
+
 -- the public call: a record or an array that is refused, by its number
 module _ (m : Model) (rounds : ℕ) (hs ts out : List ℕ) {f : Fit} (e : f ≡ fitOf m (length hs) (length ts)) where
   pub invalid-writes : f .refusal ≡ 6 → Writes m rounds hs ts out out Invalid
-  invalid-writes n = record { answers = sym (is-invalid m (length hs) (length ts) e n _ _ _); leaves = sym (is-invalid m (length hs) (length ts) e n _ _ _) }
+  invalid-writes n = record { answer = sym (is-invalid m (length hs) (length ts) e n _ _ _); leaves = sym (is-invalid m (length hs) (length ts) e n _ _ _) }
 
   pub short-writes : f .refusal ≡ 7 → Writes m rounds hs ts out out Short
-  short-writes n = record { answers = sym (is-short m (length hs) (length ts) e n _ _ _); leaves = sym (is-short m (length hs) (length ts) e n _ _ _) }
+  short-writes n = record { answer = sym (is-short m (length hs) (length ts) e n _ _ _); leaves = sym (is-short m (length hs) (length ts) e n _ _ _) }
 
   -- else the listing is put
   module _ (p : f .refusal ≡ 6 → ⊥) (q : f .refusal ≡ 7 → ⊥) where
@@ -105,8 +122,8 @@ module _ (m : Model) (rounds : ℕ) (hs ts out : List ℕ) {f : Fit} (e : f ≡ 
     put-whole {after} {n} = subst (λ (z : Size). Put out after 0 n (listingBytes (z .symbols) (z .states) rounds hs ts)) (size-is m (length hs) (length ts) e p q)
 
     module _ {after : List ℕ} {n : ℕ} (x : Put out after 0 n (bytesOf m rounds hs ts)) where
-      writes : {w : Written} → w ≡ fitted (length (bytesOf m rounds hs ts)) (length out) → Writes m rounds hs ts out after w
-      writes a = record { answers = a ∙ sym (tested-well m (length hs) (length ts) fits _ _ _); leaves = x .cells ∙ sym (tested-well m (length hs) (length ts) fits _ _ _) }
+      writes : {w : Written} → meaning w ≡ answered (fitted (length (bytesOf m rounds hs ts)) (length out)) → Writes m rounds hs ts out after w
+      writes a = record { answer = a ∙ sym (tested-well m (length hs) (length ts) fits _ _ _); leaves = x .cells ∙ sym (tested-well m (length hs) (length ts) fits _ _ _) }
 
       pub all-writes : n ≤ length after → Writes m rounds hs ts out after (Bytes n)
       all-writes l =

@@ -1,41 +1,41 @@
 -- What the writing of a listing answers, and what it leaves in the lent bytes. Assumes nothing.
-use mathlib.Core.List.{List}
+use mathlib.Core.List.{List, [], _∷_}
 use mathlib.Core.Path.{_≡_}
 use Prim.Native.Nat.{ℕ, _*_, _<_, _≤_}
 use lib.Dec.{ltb}
 use lib.ListN.{length}
 use lib.Seq.{sets}
 use Rattle.text.specs.Split.{pick}
+use Rattle.product.specs.Answer.{Answer, answered, refused}
 use Rattle.table.specs.declared.Size.{Size}
 use Rattle.model.specs.declared.Model.{Model}
-use Rattle.fitting.specs.Fits.{tested}
+use Rattle.fitting.specs.Fits.{tested, guarded}
 use Rattle.printing.specs.declared.Written.{Written}
 use Rattle.printing.specs.declared.Written.the-variants.{Invalid, Short, Bytes, Cut}
 use Rattle.printing.specs.Listing.{listingBytes}
 
--- the document's number of each refusal, and 0 where the listing is written, or as much of it as has room; the value is how many bytes it has
-abbrev pub number : Written → ℕ
-number Invalid = 6
-number Short = 7
-number (Bytes n) = 0
-number Cut = 0
+-- all the bytes of a listing have room, so many; or not all
+pub data Listed : Type 0 where
+  bytes : ℕ → Listed
+  cut : Listed
 
-abbrev pub value : Written → ℕ
-value Invalid = 0
-value Short = 0
-value (Bytes n) = n
-value Cut = 0
+-- the document's number and values of each answer; without a refusal, how many bytes the listing has
+abbrev pub meaning : Written → Answer Listed
+meaning (Bytes n) = answered (bytes n)
+meaning Cut = answered cut
+meaning Invalid = refused 6 (0 ∷ [])
+meaning Short = refused 7 (0 ∷ [])
 
 abbrev pub bytesOf : Model → (rounds : ℕ) → (heads triples : List ℕ) → List ℕ
 bytesOf m rounds hs ts = listingBytes (m .symbols) (m .states) rounds hs ts
 
 -- a listing of so many bytes fits the room, or is cut
-abbrev pub fitted : (bytes room : ℕ) → Written
-fitted n room = pick (ltb room n) Cut (Bytes n)
+abbrev pub fitted : (n room : ℕ) → Listed
+fitted n room = pick (ltb room n) cut (bytes n)
 
 -- how many bytes the listing has; as many of them stand in `out` as it has room for, from its first byte on, and no other byte changes
-pub record Writes (m : Model) (rounds : ℕ) (heads triples out after : List ℕ) (answer : Written) : Type 0 where
-  pub answers : answer ≡ tested m (length heads) (length triples) Invalid Short (fitted (length (bytesOf m rounds heads triples)) (length out))
+pub record Writes (m : Model) (rounds : ℕ) (heads triples out after : List ℕ) (r : Written) : Type 0 where
+  pub answer : meaning r ≡ guarded m (length heads) (length triples) (answered (fitted (length (bytesOf m rounds heads triples)) (length out)))
   pub leaves : after ≡ tested m (length heads) (length triples) out out (sets out 0 (bytesOf m rounds heads triples))
 
 -- there are symbols and states, and the cell's number is small

@@ -6,3 +6,7 @@ use Prim.Native.Nat.{ℕ}
 pub data Answer (A : Type 0) : Type 0 where
   answered : A → Answer A
   refused : (number : ℕ) → (values : List ℕ) → Answer A
+
+-- what a call answers that only accepts or refuses
+pub data Acceptance : Type 0 where
+  accepted : Acceptance

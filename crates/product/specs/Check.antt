@@ -1,11 +1,13 @@
 -- The table check's answer. Assumes nothing.
 use mathlib.Core.Bool.{Bool, true, false, not, _&&_, _||_}
+use mathlib.Core.List.{[], _∷_}
 use mathlib.Core.Option.{Option, none, some}
 use Prim.Native.Nat.{ℕ}
 use Rattle.product.specs.Lists.{all, find}
 use Rattle.product.specs.Product.{Product, Step}
 use Rattle.product.specs.Facts.{Fact, Way, needs, first, cells, waysOf, pairs}
 use Rattle.product.specs.Verdict.{violating}
+use Rattle.product.specs.Answer.{Answer, answered, refused, Acceptance, accepted}
 
 -- if all that the way needs is present, what it gives is too
 abbrev pub keeps : (Fact → Bool) → Way → Bool
@@ -38,3 +40,8 @@ checked p t =
       | false ↦ fails 1 0 0
       | true ↦ elim (clean p t) [ false ↦ fails 2 0 0 | true ↦ openAt (find (λ s. not (closedAt p t s)) (pairs p)) ]
     ]
+
+-- by the document's number: 11, with the reason, the rule and the move
+abbrev pub checkAnswer : Checked → Answer Acceptance
+checkAnswer passes = answered accepted
+checkAnswer (fails reason r v) = refused 11 (reason ∷ r ∷ v ∷ [])

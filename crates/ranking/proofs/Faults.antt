@@ -1,6 +1,6 @@
 -- The fault of a fact's line, case by case. Assumes nothing.
 use mathlib.Core.Path.{_≡_, sym, _∙_}
-use mathlib.Core.Bool.{Bool, true, false, cond}
+use mathlib.Core.Bool.{Bool, true, false}
 use mathlib.Core.List.{List}
 use Prim.Native.Nat.{ℕ, _<_, _≤_}
 use borrow.Author.Tests.{lt-ltb, le-ltb, eq-eqb, ne-eqb}
@@ -12,8 +12,8 @@ module _ (count takes fault : ℕ) where
   pub miscounted : (count ≡ takes → ⊥) → 2 ≡ counted count takes fault
   miscounted h = rw (ne-eqb _ _ h)
 
-  pub well-counted : count ≡ takes → {r : ℕ} → r ≡ fault → r ≡ counted count takes fault
-  well-counted h e = e ∙ rw (eq-eqb _ _ h)
+  pub well-counted : count ≡ takes → {r : ℕ} {before after put : List ℕ} → Ranked before after fault put r → Ranked before after (counted count takes fault) put r
+  well-counted h x = rw (eq-eqb _ _ h) x
 
 -- the fault of a fact's line
 module _ (begun held : ℕ) (inside : Bool) (rank : ℕ) where
@@ -38,10 +38,6 @@ module _ (begun held : ℕ) (inside : Bool) (rank : ℕ) where
       pub fault-none : inside ≡ true → rank ≤ largest → 0 ≡ faultOf begun held inside rank
       unfolding faultOf
       fault-none i l = rw (ne-eqb _ _ h, eq-eqb _ _ k, i, le-ltb _ _ l)
-
--- a fact outside its range has no cell, and is held as absent
-pub outside-absent : (held : ℕ) (inside : Bool) → inside ≡ false → cond inside held absent ≡ absent
-outside-absent held inside e = rw e
 
 -- what is left of the cells, by the number that was found
 module _ {before put : List ℕ} {f g : ℕ} (e : f ≡ g) where

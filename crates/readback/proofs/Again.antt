@@ -18,7 +18,7 @@ use Rattle.table.proofs.Cells.{head-inside, triple-inside}
 use Rattle.listingline.specs.Line.{lineBy, head, erase}
 use Rattle.rows.specs.State.{State}
 use Rattle.rows.specs.Lines.{goes, stepOf, headStep, tripleStep}
-use Rattle.ranking.specs.Rank.{largest, headInside, tripleInside}
+use Rattle.ranking.specs.Rank.{largest}
 use Rattle.listing.specs.Reading.{filled}
 use Rattle.ranking.proofs.Faults.{fault-none}
 use Rattle.rows.proofs.Steps.{head-taken, triple-taken}
@@ -89,7 +89,7 @@ module _ (z : Size) (some-symbol : 1 ≤ z .symbols) (some-state : 1 ≤ z .stat
   head-line l a =
       let q : i / G < Q = row-below i G Q some-symbol l in
       let g : i % G < G = mod-lt i some-symbol in
-      let b : (headInside z (i / G) (i % G)) ≡ true = head-inside q g in
+      let b = head-inside q g in
       let held : headIn G Q (s .headcells) (i / G) (i % G) ≡ absent = rw (head-inside q g, row-place i G) a in
       sym (head-taken z s (numbers (i / G ∷ i % G ∷ rank ∷ [])) (fault-none (s .begun) _ _ rank not-early held b small) refl
       (let e : set (s .headcells) i rank ≡ putHead G Q (s .headcells) (i / G) (i % G) rank = rw (head-inside q g, row-place i G) in e))
@@ -100,7 +100,7 @@ module _ (z : Size) (some-symbol : 1 ≤ z .symbols) (some-state : 1 ≤ z .stat
       let q : i / Q / G < Q = row-below (i / Q) G Q some-symbol (row-below i Q (Q * G) some-state l) in
       let g : i / Q % G < G = mod-lt (i / Q) some-symbol in
       let e : i % Q < Q = mod-lt i some-state in
-      let b : (tripleInside z (i / Q / G) (i / Q % G) (i % Q)) ≡ true = triple-inside q g e in
+      let b = triple-inside q g e in
       let held : tripleIn G Q (s .triplecells) (i / Q / G) (i / Q % G) (i % Q) ≡ absent = rw (triple-inside q g e, row-place (i / Q) G, row-place i Q) a in
       sym (triple-taken z s (numbers (i / Q / G ∷ i / Q % G ∷ i % Q ∷ rank ∷ [])) (fault-none (s .begun) _ _ rank not-early held b small) refl
       (let x : set (s .triplecells) i rank ≡ putTriple G Q (s .triplecells) (i / Q / G) (i / Q % G) (i % Q) rank = rw (triple-inside q g e, row-place (i / Q) G, row-place i Q) in x))

@@ -33,8 +33,8 @@ use Rattle.closed.proofs.Kept.{Has, closed-exactly}
 use Rattle.recheck.specs.declared.Found.{Found}
 use Rattle.recheck.specs.declared.Found.the-variants.{Nowhere}
 use Rattle.table.specs.Cells.{headCount, tripleCount}
-use Rattle.table.proofs.Long.{long-exactly}
-use Rattle.recheck.specs.Recheck.{sizeOf, Fit}
+use Rattle.fitting.specs.Fits.{sizeOf}
+use Rattle.recheck.specs.Recheck.{Sized}
 use Rattle.recheck.specs.Tests.{stepKept, step, isClosed, isOpen, closedBy, FirstOpen, openingOf, foundAs}
 use Rattle.recheck.proofs.Finding.{nowhere}
 use Rattle.recheck.proofs.Matrices.{triple-in}
@@ -184,10 +184,9 @@ module _ (m : Model) (v : T (valid m)) (heads triples : List ℕ) (z : Size) (si
         (λ (a, b). first-open m v heads triples ts hs a b k is firsts (omega arith)) seen f
 
 -- what the search asks, number by number
-pub fits : {m : Model} {z : Size} {hs ts : List ℕ} → Fit m z hs ts
+pub fits : {m : Model} {z : Size} {hs ts : List ℕ} → Sized m z hs ts
     → (z .symbols ≤ 32) × (z .states ≤ 8) × (headCount (z .symbols) (z .states) ≤ length hs) × (tripleCount (z .symbols) (z .states) ≤ length ts)
 fits {m} {z} {hs} {ts} f =
-    let s = valid-sizes m (f .valid-model) in
-    let l = long-exactly (m .symbols) (m .states) (length hs) (length ts) .0 (f .long) in
+    let s = valid-sizes m (f .fits .valid-model) in
     subst⁻¹ (λ (z : Size). (z .symbols ≤ 32) × (z .states ≤ 8) × (headCount (z .symbols) (z .states) ≤ length hs) × (tripleCount (z .symbols) (z .states) ≤ length ts))
-    (f .size-is) (s .symbols, s .states, l .0, l .1)
+    (f .size-is) (s .symbols, s .states, f .fits .heads-there, f .fits .triples-there)

@@ -1,10 +1,10 @@
 // The table check: whether the facts in two lent arrays show that no run violates. It knows the model and the definitions, and no decision.
 ghost use mathlib.Core.Path.{_≡_};
 ghost use Rattle.lent.specs.Lending.{modelIn};
-ghost use Rattle.recheck.specs.Recheck.{recheck};
+ghost use Rattle.recheck.specs.Recheck.{meaning, recheck};
 use crate::search::open_step;
 use lent::Lent;
-use table::Size;
+use table::Fact;
 
 // The answer. specs/Recheck.antt gives the document's number and values of each.
 pub enum Recheck {
@@ -13,12 +13,12 @@ pub enum Recheck {
     Short,
     NoStart,
     Violating,
-    Open(usize, usize),
+    Open { rule: usize, by: usize },
 }
 
 // The first rule and move that are not closed, or none.
 enum Found {
-    At(usize, usize),
+    At { rule: usize, by: usize },
     Nowhere,
 }
 
@@ -27,22 +27,20 @@ mod search; // the first rule and move that are not closed
 
 // Accepts exactly if the start head is present, no violating fact is, and every consequence of every step is; else the first reason.
 pub fn check_table<'a>(m: &'a Lent, heads: &'a [u16], triples: &'a [u16]) -> Recheck
-    ensures { λ r. ⌜ r ≡ recheck (modelIn (now (m .entry))) (now (heads .entry)) (now (triples .entry)) ⌝ }
+    ensures { λ r. ⌜ meaning r ≡ recheck (modelIn (now (m .entry))) (now (heads .entry)) (now (triples .entry)) ⌝ }
 {
-    if !lent::is_valid(m) {
+    let fit = fitting::measure(m, heads.len(), triples.len());
+    if fit.refusal == 6 {
         return Recheck::Invalid;
     }
-    let s = lent::shape(m);
-    let size = Size {
-        symbols: s.symbols,
-        states: s.states,
-    };
-    if !table::long_enough(heads, triples, size) {
+    if fit.refusal == 7 {
         return Recheck::Short;
     }
+    let size = fit.size;
+    let s = lent::shape(m);
     let q = s.startstate as usize;
     let g = s.startsymbol as usize;
-    if !kept::has_head(heads, size, q, g) {
+    if !kept::has(heads, triples, size, Fact::Head(q, g)) {
         return Recheck::NoStart;
     }
     if !culprit::is_clean(m, heads, triples, size, q, g) {
@@ -50,7 +48,7 @@ pub fn check_table<'a>(m: &'a Lent, heads: &'a [u16], triples: &'a [u16]) -> Rec
     }
     let found = open_step(m, heads, triples, size);
     match found {
-        Found::At(r, v) => Recheck::Open(r, v),
+        Found::At { rule, by } => Recheck::Open { rule, by },
         Found::Nowhere => Recheck::Accepted,
     }
 }

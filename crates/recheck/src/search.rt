@@ -3,7 +3,7 @@ ghost use mathlib.Core.Path.{_≡_};
 ghost use Rattle.product.specs.Lists.{upTo, each, find};
 ghost use Rattle.lent.specs.Lending.{modelIn, productIn};
 ghost use Rattle.kept.specs.Kept.{inTable};
-ghost use Rattle.recheck.specs.Recheck.{Fit};
+ghost use Rattle.recheck.specs.Recheck.{Sized};
 ghost use Rattle.recheck.specs.Tests.{stepsKept, step, isOpen, closedBy, FirstOpen, openingOf, foundAs};
 use crate::Found;
 use crate::facts::all_heads;
@@ -48,7 +48,7 @@ fn open_move<'a>(
     let mut v: usize = 0;
     while v < moves {
         if !steps_kept(m, heads, triples, size, r, v) {
-            return Found::At(r, v);
+            return Found::At { rule: r, by: v };
         }
         v += 1;
     }
@@ -78,7 +78,7 @@ fn open_rule<'a>(
 
 // The first rule, and its first move, that are not closed. Rule by rule matrices decide; only for a rule that is not closed are its moves tried.
 pub(crate) fn open_step<'a>(m: &'a Lent, heads: &'a [u16], triples: &'a [u16], size: Size) -> Found
-    requires { ⌜ Fit (modelIn (now m)) size (now heads) (now triples) ⌝ }
+    requires { ⌜ Sized (modelIn (now m)) size (now heads) (now triples) ⌝ }
     ensures { λ a. ⌜ a ≡ foundAs (openingOf (modelIn (now (m .entry))) (inTable size (now (heads .entry)) (now (triples .entry)))) ⌝ }
 {
     let s = lent::shape(m);

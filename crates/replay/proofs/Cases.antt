@@ -1,9 +1,8 @@
--- Small traces of the models in the reader's table, and what the definitions answer: a number with a step, or none if the trace is accepted.
--- Assumes nothing.
+-- Small traces of the models in the reader's table, and what the definitions answer. Assumes nothing.
 use mathlib.Core.List.{List, [], _∷_}
-use mathlib.Core.Option.{Option, none, some}
 use mathlib.Core.Path.{_≡_, refl}
 use Prim.Native.Nat.{ℕ}
+use Rattle.product.specs.Answer.{Answer, answered, refused, Acceptance, accepted}
 use Rattle.product.specs.Lists.{each}
 use Rattle.product.specs.Runs.{step}
 use Rattle.product.specs.Replay.{replayFrom, replay}
@@ -17,9 +16,9 @@ pub record Case : Type 0 where
   pub of : Model
   pub steps : List ℕ
   pub room : ℕ
-  pub said : Option (ℕ × ℕ)
+  pub said : Answer Acceptance
 
-case : Model → List ℕ → ℕ → Option (ℕ × ℕ) → Case
+case : Model → List ℕ → ℕ → Answer Acceptance → Case
 case m steps room said = record { of = m; steps = steps; room = room; said = said }
 
 -- In order: accepted, one cell too few, an end that is not final, a symbol that does not show the event, no such rule, the rule's symbol not on top, no
@@ -27,18 +26,18 @@ case m steps room said = record { of = m; steps = steps; room = room; said = sai
 unfoldable pub cases : List Case
 unfolding case
 cases =
-    case modelA (0 ∷ 129 ∷ []) 3 none
-    ∷ case modelA (0 ∷ 129 ∷ []) 2 (some (7, 0))
-    ∷ case modelA (0 ∷ []) 2 (some (12, 2))
-    ∷ case modelB (0 ∷ 129 ∷ []) 3 (some (12, 2))
-    ∷ case modelA (0 ∷ 65535 ∷ []) 3 (some (12, 2))
-    ∷ case modelA (0 ∷ 0 ∷ []) 3 (some (12, 2))
-    ∷ case modelA (0 ∷ 129 ∷ 256 ∷ []) 4 (some (12, 3))
-    ∷ case modelA [] 1 (some (12, 1))
-    ∷ case startFinal [] 1 none
-    ∷ case oneExit (0 ∷ []) 2 none
-    ∷ case oneExit (0 ∷ 0 ∷ []) 3 (some (12, 2))
-    ∷ case (modelOf 0 1 1 [] [] [] []) [] 0 (some (6, 0))
+    case modelA (0 ∷ 129 ∷ []) 3 (answered accepted)
+    ∷ case modelA (0 ∷ 129 ∷ []) 2 (refused 7 (0 ∷ []))
+    ∷ case modelA (0 ∷ []) 2 (refused 12 (2 ∷ []))
+    ∷ case modelB (0 ∷ 129 ∷ []) 3 (refused 12 (2 ∷ []))
+    ∷ case modelA (0 ∷ 65535 ∷ []) 3 (refused 12 (2 ∷ []))
+    ∷ case modelA (0 ∷ 0 ∷ []) 3 (refused 12 (2 ∷ []))
+    ∷ case modelA (0 ∷ 129 ∷ 256 ∷ []) 4 (refused 12 (3 ∷ []))
+    ∷ case modelA [] 1 (refused 12 (1 ∷ []))
+    ∷ case startFinal [] 1 (answered accepted)
+    ∷ case oneExit (0 ∷ []) 2 (answered accepted)
+    ∷ case oneExit (0 ∷ 0 ∷ []) 3 (refused 12 (2 ∷ []))
+    ∷ case (modelOf 0 1 1 [] [] [] []) [] 0 (refused 6 (0 ∷ []))
     ∷ []
 
 pub cases-hold : each cases (λ c. replayed (c .of) (c .steps) (c .room)) ≡ each cases (λ c. c .said)

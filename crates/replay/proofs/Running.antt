@@ -24,7 +24,7 @@ use Rattle.replay.specs.declared.Machine.{Machine}
 use Rattle.replay.specs.declared.Outcome.{Outcome}
 use Rattle.replay.specs.declared.Outcome.the-variants.{Moved, Blocked, Arrived}
 use Rattle.replay.specs.declared.Replayed.the-variants.{Accepted, Bad}
-use Rattle.replay.specs.Replay.{answered}
+use Rattle.replay.specs.Replay.{replayedAs}
 use Rattle.replay.specs.Machine.{below, Ready, machine, outcome, Held, Stepped, Ran}
 use Rattle.replay.specs.declared.Replayed.{Replayed}
 
@@ -152,7 +152,7 @@ module _ (m : Model) (steps : List ℕ) where
         let x : replayFrom (productOf m) k here [] ≡ replay (productOf m) (each steps loaded) = rw none-left at (now .to-do) in
         record { answer = rw (sym x ∙ ends (productOf m) k here b (now .final-now ∙ e)) (said b); rest = now .rest }
       where
-        said : (b : Bool) → cond b Accepted (Bad (k + 1)) ≡ answered (cond b replays (stops (suc k)))
+        said : (b : Bool) → cond b Accepted (Bad (k + 1)) ≡ replayedAs (cond b replays (stops (suc k)))
         said true = refl
         said false = ap Bad (add-one k)
 

@@ -17,7 +17,7 @@ use Rattle.replay.specs.declared.Machine.{Machine}
 use Rattle.replay.specs.declared.Outcome.{Outcome}
 use Rattle.replay.specs.declared.Outcome.the-variants.{Moved, Blocked, Arrived}
 use Rattle.replay.specs.declared.Replayed.{Replayed}
-use Rattle.replay.specs.Replay.{answered}
+use Rattle.replay.specs.Replay.{replayedAs}
 
 -- the stack of depth d: the first d cells, the last of them on top
 abbrev pub below : List ℕ → ℕ → List ℕ
@@ -70,5 +70,5 @@ pub record Runs (m : Model) (steps cells : List ℕ) : Type 0 where
   pub room : length steps < length cells
 
 pub record Ran (m : Model) (steps cells : List ℕ) (r : Replayed) (cells′ : List ℕ) : Type 0 where
-  pub answer : r ≡ answered (replay (productOf m) (each steps loaded))
+  pub answer : r ≡ replayedAs (replay (productOf m) (each steps loaded))
   pub rest : drop (length steps + 1) cells′ ≡ drop (length steps + 1) cells

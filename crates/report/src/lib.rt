@@ -1,11 +1,9 @@
 // What `pdcheck` prints, from the text that it reads: the refusal of the text, the trace of a violation, or the listing of a safe table.
 ghost use mathlib.Core.Path.{_≡_};
-ghost use Prim.Native.Nat.{ℕ};
 ghost use lib.Dec.{T};
 ghost use lib.ListN.{length};
 ghost use Rattle.lent.specs.Lending.{modelIn, productIn};
 ghost use Rattle.product.specs.Verdict.{bound};
-ghost use Rattle.model.specs.Model.{productOf};
 ghost use Rattle.model.specs.Valid.{valid};
 ghost use Rattle.fitting.specs.Fits.{Fits};
 ghost use Rattle.text.specs.Put.{Put};
@@ -16,6 +14,7 @@ use lent::Lent;
 use printing::Written;
 use trace::Traced;
 use violation::ROOM;
+use violation::put_violation;
 
 // Puts the listing of a safe table. The record is valid and the arrays are long enough, so that it is never refused.
 fn put_safe(out: &mut [u8], m: &Lent, rounds: u16, heads: &[u16], triples: &[u16]) -> usize
@@ -45,8 +44,8 @@ fn put_told(
     ensures { λ r. ⌜ Put (now (out .entry)) (now (out .exit)) 0 r (modelOutput (modelIn (now (m .entry)))) ⌝ }
 {
     match told {
-        Traced::Found(n, count) => violation::put_violation(out, m, true, n, steps, count),
-        Traced::Cut(n, count) => violation::put_violation(out, m, false, n, steps, count),
+        Traced::Found { rounds, steps: n } => put_violation(out, m, true, rounds, steps, n),
+        Traced::Cut { rounds, room } => put_violation(out, m, false, rounds, steps, room),
         Traced::Safe(n) => put_safe(out, m, n, heads, triples),
         Traced::Invalid => 0,
         Traced::Short => 0,

@@ -1,11 +1,12 @@
 -- What is put in each case of the answers. Assumes nothing.
 use mathlib.Core.Bool.{true, false}
-use mathlib.Core.List.{List}
+use mathlib.Core.List.{List, [], _∷_}
 use mathlib.Core.Path.{_≡_, ap, ap₂, sym, _∙_}
 use Prim.Native.Nat.{ℕ, _<_}
 use native.Mathlib.Omega.{arith}
 use lib.ListN.{length, replicate}
 use lib.Dec.{T}
+use Rattle.product.specs.Answer.{refused}
 use Rattle.model.specs.declared.Model.{Model}
 use Rattle.model.specs.Valid.{valid}
 use Rattle.lent.specs.Lending.{modelIn}
@@ -16,56 +17,57 @@ use Rattle.refusal.proofs.Reading.{accepted-put, refused-put}
 use Rattle.splitter.specs.Part.{listingOf, modelPart}
 use Rattle.fitting.specs.Fits.{Fits}
 use Rattle.listing.specs.declared.ListingRead.{ListingRead}
-use Rattle.listing.specs.Reading.{number, Reads}
-use Rattle.listing.specs.declared.ListingRead.the-variants.{Invalid, Short}
+use Rattle.listing.specs.Reading.{meaning, Reads}
 use Rattle.fitting.proofs.Tested.{tested-well}
 use Rattle.recheck.specs.declared.Recheck.{Recheck}
-use Rattle.recheck.specs.declared.Recheck.the-variants as check
+use Rattle.recheck.specs.Recheck as check
 use Rattle.recheck.specs.Recheck.{recheck}
 use Rattle.text.specs.Put.{Put}
 use Rattle.text.proofs.Puts.{as-put}
 use Rattle.rereport.specs.Heard.{lineIn, Heard}
 use Rattle.rereport.specs.Output.{checkBytes, listingRead, listingBytes, listingOutput, recheckOutput}
-use Rattle.rereport.proofs.Small.{listing-line, listing-number, ruleIn, moveIn, numberIn, recheck-few, not-refused}
+use Rattle.rereport.proofs.Small.{listing-line, listing-number, ruleIn, moveIn, recheck-few, not-refused}
 
 -- the check, by the case of its answer
-module _ (m : Model) (hs ts : List ℕ) (f : Fits m (length hs) (length ts)) {x c : Recheck} (e : x ≡ recheck m hs ts) (t : x ≡ c) where
-  pub checked-put : {o p : List ℕ} {a b : ℕ} → Put o p a b (checkBytes c) → Put o p a b (checkBytes (recheck m hs ts))
-  checked-put w = as-put (ap checkBytes (sym t ∙ e)) w
+module _ (m : Model) (hs ts : List ℕ) (f : Fits m (length hs) (length ts)) {x c : Recheck} (e : check.meaning x ≡ recheck m hs ts) (t : x ≡ c) where
+  means : check.meaning c ≡ recheck m hs ts
+  means = sym (ap check.meaning t) ∙ e
 
-  pub rule-fits : ruleIn c < 65536
-  rule-fits = omega (arith, recheck-few m (f .valid-model) hs ts .0, ap ruleIn (sym t ∙ e))
+  pub checked-put : {o p : List ℕ} {a b : ℕ} → Put o p a b (checkBytes (check.meaning c)) → Put o p a b (checkBytes (recheck m hs ts))
+  checked-put w = as-put (ap checkBytes means) w
 
-  pub move-fits : moveIn c < 65536
-  move-fits = omega (arith, recheck-few m (f .valid-model) hs ts .1, ap moveIn (sym t ∙ e))
+  pub rule-fits : ruleIn (check.meaning c) < 65536
+  rule-fits = omega (arith, recheck-few m hs ts f .0, ap ruleIn means)
 
-  pub never-invalid : c ≡ check.Invalid → ⊥
-  never-invalid k = not-refused m hs ts f .0 (ap numberIn (sym e ∙ t ∙ k))
+  pub move-fits : moveIn (check.meaning c) < 65536
+  move-fits = omega (arith, recheck-few m hs ts f .1, ap moveIn means)
 
-  pub never-short : c ≡ check.Short → ⊥
-  never-short k = not-refused m hs ts f .1 (ap numberIn (sym e ∙ t ∙ k))
+  -- it is neither 6 nor 7
+  pub never : (n : ℕ) (vs : List ℕ) → n < 11 → check.meaning c ≡ refused n vs → ⊥
+  never n vs l k = not-refused m hs ts f n vs l (sym k ∙ means)
 
 -- a listing, by the case of its answer
-pub case-put : {o p : List ℕ} {a b : ℕ} (c : Recheck) {x w : ListingRead} → x ≡ w → Put o p a b (listingBytes w c) → Put o p a b (listingBytes x c)
-case-put c e y = as-put (ap (λ x. listingBytes x c) (sym e)) y
+pub case-put : (m : Model) (hs ts : List ℕ) {o p : List ℕ} {a b : ℕ} {x w : ListingRead} → x ≡ w
+    → Put o p a b (listingBytes (meaning w) (recheck m hs ts)) → Put o p a b (listingBytes (meaning x) (recheck m hs ts))
+case-put m hs ts e y = as-put (ap (λ x. listingBytes (meaning x) (recheck m hs ts)) (sym e)) y
 
-pub case-line : {m : Model} {x w : ListingRead} {h t : ℕ} → Heard m x h t → x ≡ w → lineIn w < 65536
-case-line r e = omega (arith, r .small, ap lineIn e)
+pub case-line : {m : Model} {x w : ListingRead} {h t : ℕ} → Heard m x h t → x ≡ w → lineIn (meaning w) < 65536
+case-line r e = omega (arith, r .small, ap (λ x. lineIn (meaning x)) e)
 
 -- the reading of a listing, of a valid model and into arrays that have room
 module _ (m : Model) (text : List ℕ) {hs ts hs′ ts′ : List ℕ} {x : ListingRead} (f : Fits m (length hs) (length ts)) (r : Reads m text hs ts hs′ ts′ x) where
-  read-is : x ≡ listingRead m text
-  read-is = r .answers ∙ tested-well m (length hs) (length ts) f _ _ _
+  read-is : meaning x ≡ listingRead m text
+  read-is = r .answer ∙ tested-well m (length hs) (length ts) f _ _ _
 
   pub heard : {h t : ℕ} → Fits m h t → Heard m x h t
   heard g = record {
     fits = g;
-    not-invalid = λ e. omega (arith, listing-number m text, ap number (sym read-is ∙ e));
-    not-short = λ e. omega (arith, listing-number m text, ap number (sym read-is ∙ e));
+    not-invalid = λ e. listing-number m text 6 (0 ∷ []) (omega arith) (sym (ap meaning e) ∙ read-is);
+    not-short = λ e. listing-number m text 7 (0 ∷ []) (omega arith) (sym (ap meaning e) ∙ read-is);
     small = omega (arith, listing-line m text, ap lineIn read-is);
   }
 
-  pub heard-put : {o p : List ℕ} {a b : ℕ} → Put o p a b (listingBytes x (recheck m hs′ ts′)) → Put o p a b (listingOutput m text hs ts)
+  pub heard-put : {o p : List ℕ} {a b : ℕ} → Put o p a b (listingBytes (meaning x) (recheck m hs′ ts′)) → Put o p a b (listingOutput m text hs ts)
   unfolding listingOutput
   heard-put y =
       as-put

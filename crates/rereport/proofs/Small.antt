@@ -3,33 +3,33 @@
 use mathlib.Core.Bool.{Bool, true, false, cond, not}
 use mathlib.Core.List.{List, [], _∷_}
 use mathlib.Core.Option.{Option, none, some}
-use mathlib.Core.Path.{_≡_, refl, subst}
+use mathlib.Core.Path.{_≡_, refl, _∙_, subst, subst⁻¹}
 use Prim.Native.Nat.{ℕ, _+_, _<_, _≤_}
 use native.Mathlib.Omega.{arith}
 use lib.Dec.{T, eqb, ltb}
-use lib.ListN.{length}
-use borrow.Author.Tests.{ltb-false, le-leb}
+use lib.ListN.{length, getD}
+use borrow.Author.Tests.{ltb-false}
 use Rattle.text.specs.Split.{pick, first, later, split}
 use Rattle.listingline.specs.Line.{lineOf}
 use Rattle.product.specs.Lists.{All, upTo, each, find}
+use Rattle.product.specs.Answer.{Answer, answered, refused, Acceptance}
 use Rattle.product.specs.Product.{Step}
 use Rattle.product.specs.Facts.{Fact, first as start, pairs}
-use Rattle.product.specs.Check.{Checked, passes, fails, closedAt, clean, openAt, checked}
-use Rattle.product.proofs.Lists.{T-true, All-over, All-each, upTo-lt}
+use Rattle.product.specs.Check.{Checked, passes, fails, closedAt, clean, openAt, checked, checkAnswer}
+use Rattle.product.proofs.Lists.{All-over, All-each, upTo-lt}
 use Rattle.table.specs.declared.Size.{Size}
 use Rattle.model.specs.declared.Model.{Model}
 use Rattle.model.specs.Model.{productOf}
 use Rattle.model.specs.Valid.{valid}
 use Rattle.model.proofs.Valid.{valid-sizes}
-use Rattle.recheck.specs.declared.Recheck.{Recheck}
-use Rattle.recheck.specs.declared.Recheck.the-variants.{Accepted, Invalid, Short, NoStart, Violating, Open}
-use Rattle.recheck.specs.Recheck.{sizeOf, longEnough, inTable, answer, recheck}
+use Rattle.recheck.specs.Recheck.{inTable, recheck}
+use Rattle.recheck.proofs.Answers.{recheck-checked}
 use Rattle.rows.specs.State.{State}
-use Rattle.listing.specs.declared.ListingRead.the-variants as listing
 use Rattle.rows.specs.Lines.{longest, startState, ends, stepOf, finished, readFrom, readText}
-use Rattle.listing.specs.Reading.{number, linesOf, refusedAs, answerOf}
+use Rattle.rows.proofs.Refusals.{text-of}
+use Rattle.listing.specs.Reading.{linesOf, answerOf}
 use Rattle.refusal.proofs.Reading.{lines-few}
-use Rattle.fitting.specs.Fits.{Fits}
+use Rattle.fitting.specs.Fits.{sizeOf, Fits}
 use Rattle.rereport.specs.Heard.{lineIn}
 use Rattle.rereport.specs.Output.{listingRead}
 
@@ -48,16 +48,6 @@ line-within z n s l (k ∷ ls) =
     go h true = omega arith
     go h false = omega arith
 
-refused-line : (n line : ℕ) → lineIn (refusedAs n line) ≤ line
-unfolding refusedAs
-refused-line n line = go (eqb n 1) (eqb n 2) (eqb n 3)
-  where
-    go : (o a b : Bool) → lineIn (pick o listing.TooLong (pick a (listing.Malformed line) (pick b (listing.Misplaced line) (listing.OutOfRange line)))) ≤ line
-    go true a b = omega arith
-    go false true b = omega arith
-    go false false true = omega arith
-    go false false false = omega arith
-
 text-line : (z : Size) (text : List ℕ) → readText z startState text .line < 65536
 text-line z text = go (ltb longest (length text)) refl
   where
@@ -69,22 +59,18 @@ pub listing-line : (m : Model) (text : List ℕ) → lineIn (listingRead m text)
 unfolding answerOf
 listing-line m text = go (eqb (linesOf m text .refusal) 0)
   where
-    go : (b : Bool) → lineIn (pick b (listing.Accepted (linesOf m text .state .rounds)) (refusedAs (linesOf m text .refusal) (linesOf m text .line))) < 65536
+    go : (b : Bool) → lineIn (pick b (answered (linesOf m text .state .rounds)) (refused (linesOf m text .refusal) (linesOf m text .line ∷ []))) < 65536
     go true = omega arith
-    go false = omega (arith, refused-line (linesOf m text .refusal) (linesOf m text .line), text-line (record { symbols = m .symbols; states = m .states }) text)
+    go false = omega (arith, text-line (sizeOf m) text)
 
 -- it is refused by a number of a text
-pub listing-number : (m : Model) (text : List ℕ) → number (listingRead m text) ≤ 4
-unfolding answerOf refusedAs
-listing-number m text = go (eqb (linesOf m text .refusal) 0) (eqb (linesOf m text .refusal) 1) (eqb (linesOf m text .refusal) 2) (eqb (linesOf m text .refusal) 3)
+pub listing-number : (m : Model) (text : List ℕ) (n : ℕ) (vs : List ℕ) → 4 < n → refused n vs ≡ listingRead m text → ⊥
+unfolding answerOf
+listing-number m text n vs l = go (eqb (linesOf m text .refusal) 0)
   where
-    go : (a b c d : Bool)
-        → number (pick a (listing.Accepted (linesOf m text .state .rounds)) (pick b listing.TooLong (pick c (listing.Malformed (linesOf m text .line)) (pick d (listing.Misplaced (linesOf m text .line)) (listing.OutOfRange (linesOf m text .line)))))) ≤ 4
-    go true b c d = omega arith
-    go false true c d = omega arith
-    go false false true d = omega arith
-    go false false false true = omega arith
-    go false false false false = omega arith
+    go : (b : Bool) → refused n vs ≡ pick b (answered (linesOf m text .state .rounds)) (refused (linesOf m text .refusal) (linesOf m text .line ∷ [])) → ⊥
+    go true e = let z : _≡_ {A = ℕ} 0 1 = cc in omega arith
+    go false e = let z : n ≡ linesOf m text .refusal = cc in omega (arith, text-of (sizeOf m) startState text .small)
 
 -- what is found passes what all pass
 find-all : {A : Type 0} (P : A → Type 0) (p : A → Bool) (xs : List A) → All P xs → (x : A) → find p xs ≡ some x → P x
@@ -96,32 +82,15 @@ find-all P p (y ∷ ys) (h, hs) x e = go (find-all P p ys hs x) (p y) e
     go k false e = k e
 
 -- the rule and the move of an answer
-abbrev pub ruleIn : Recheck → ℕ
-ruleIn (Open r v) = r
-ruleIn Accepted = 0
-ruleIn Invalid = 0
-ruleIn Short = 0
-ruleIn NoStart = 0
-ruleIn Violating = 0
+abbrev pub ruleIn : Answer Acceptance → ℕ
+ruleIn (answered a) = 0
+ruleIn (refused number values) = getD values 1 0
 
-abbrev pub moveIn : Recheck → ℕ
-moveIn (Open r v) = v
-moveIn Accepted = 0
-moveIn Invalid = 0
-moveIn Short = 0
-moveIn NoStart = 0
-moveIn Violating = 0
+abbrev pub moveIn : Answer Acceptance → ℕ
+moveIn (answered a) = 0
+moveIn (refused number values) = getD values 2 0
 
--- the document's number of an answer
-abbrev pub numberIn : Recheck → ℕ
-numberIn (Open r v) = 11
-numberIn Accepted = 0
-numberIn Invalid = 6
-numberIn Short = 7
-numberIn NoStart = 11
-numberIn Violating = 11
-
-abbrev Few : Recheck → Type 0
+abbrev Few : Answer Acceptance → Type 0
 Few c = (ruleIn c < 65536) × (moveIn c < 65536)
 
 module _ (m : Model) (v : T (valid m)) where
@@ -131,45 +100,26 @@ module _ (m : Model) (v : T (valid m)) where
       (λ r i. All-each (λ s. (s .by-rule < 256) × (s .by-move < 128)) (upTo (m .moves)) (λ v. record { by-rule = r; by-move = v })
       (λ w j. let z = valid-sizes m v in let a = upTo-lt (m .rules) r i in let b = upTo-lt (m .moves) w j in (omega arith, omega arith)))
 
-  answer-few : (t : Fact → Bool) → Few (answer (checked (productOf m) t))
+  answer-few : (t : Fact → Bool) → Few (checkAnswer (checked (productOf m) t))
   unfolding checked
   answer-few t = go (t (start (productOf m))) (clean (productOf m) t) (find (λ s. not (closedAt (productOf m) t s)) (pairs (productOf m))) refl
     where
       go : (a b : Bool) (o : Option Step) → find (λ s. not (closedAt (productOf m) t s)) (pairs (productOf m)) ≡ o
-          → Few (answer (elim a [ false ↦ fails 1 0 0 | true ↦ elim b [ false ↦ fails 2 0 0 | true ↦ openAt o ] ]))
+          → Few (checkAnswer (elim a [ false ↦ fails 1 0 0 | true ↦ elim b [ false ↦ fails 2 0 0 | true ↦ openAt o ] ]))
       go false b o e = (omega arith, omega arith)
       go true false o e = (omega arith, omega arith)
       go true true none e = (omega arith, omega arith)
       go true true (some s) e =
           let (a, b) = find-all (λ s. (s .by-rule < 256) × (s .by-move < 128)) (λ s. not (closedAt (productOf m) t s)) (pairs (productOf m)) pairs-few s e in (omega arith, omega arith)
 
-  pub recheck-few : (hs ts : List ℕ) → Few (recheck m hs ts)
-  unfolding recheck
-  recheck-few hs ts = go (not (valid m)) (not (longEnough (sizeOf m) hs ts)) (answer-few (inTable (sizeOf m) hs ts))
-    where
-      go : (a b : Bool) → Few (answer (checked (productOf m) (inTable (sizeOf m) hs ts)))
-          → Few (cond a Invalid (cond b Short (answer (checked (productOf m) (inTable (sizeOf m) hs ts)))))
-      go true b h = (omega arith, omega arith)
-      go false true h = (omega arith, omega arith)
-      go false false h = h
-
 -- a table that fits is checked
 module _ (m : Model) (hs ts : List ℕ) (f : Fits m (length hs) (length ts)) where
-  long-enough : longEnough (sizeOf m) hs ts ≡ true
-  long-enough = rw (le-leb _ _ (f .heads-there), le-leb _ _ (f .triples-there))
+  pub recheck-few : Few (recheck m hs ts)
+  recheck-few = subst⁻¹ Few (recheck-checked m hs ts f) (answer-few m (f .valid-model) (inTable (sizeOf m) hs ts))
 
-  is-checked : recheck m hs ts ≡ answer (checked (productOf m) (inTable (sizeOf m) hs ts))
-  unfolding recheck
-  is-checked = rw (T-true (valid m) (f .valid-model), long-enough)
-
-  answered : (c : Checked) → (numberIn (answer c) ≡ 6 → ⊥) × (numberIn (answer c) ≡ 7 → ⊥)
-  answered passes = (λ e. omega arith, λ e. omega arith)
-  answered (fails reason r v) = go (eqb reason 1) (eqb reason 2)
+  pub not-refused : (n : ℕ) (vs : List ℕ) → n < 11 → refused n vs ≡ recheck m hs ts → ⊥
+  not-refused n vs l e = go (checked (productOf m) (inTable (sizeOf m) hs ts)) (e ∙ recheck-checked m hs ts f)
     where
-      go : (a b : Bool) → (numberIn (cond a NoStart (cond b Violating (Open r v))) ≡ 6 → ⊥) × (numberIn (cond a NoStart (cond b Violating (Open r v))) ≡ 7 → ⊥)
-      go true b = (λ e. omega arith, λ e. omega arith)
-      go false true = (λ e. omega arith, λ e. omega arith)
-      go false false = (λ e. omega arith, λ e. omega arith)
-
-  pub not-refused : (numberIn (recheck m hs ts) ≡ 6 → ⊥) × (numberIn (recheck m hs ts) ≡ 7 → ⊥)
-  not-refused = rw is-checked (answered (checked (productOf m) (inTable (sizeOf m) hs ts)))
+      go : (c : Checked) → refused n vs ≡ checkAnswer c → ⊥
+      go passes e = let z : _≡_ {A = ℕ} 0 1 = cc in omega arith
+      go (fails reason r v) e = let z : n ≡ 11 = cc in omega arith

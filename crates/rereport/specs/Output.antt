@@ -2,48 +2,35 @@
 use mathlib.Core.List.{List, [], _∷_}
 use Prim.Native.Nat.{ℕ}
 use lib.ListN.{replicate}
+use Rattle.product.specs.Answer.{Answer, answered, refused, Acceptance}
 use Rattle.model.specs.declared.Model.{Model}
 use Rattle.reader.specs.Text.{readModel}
 use Rattle.splitter.specs.Part.{listingOf, modelPart}
-use Rattle.listing.specs.declared.ListingRead.{ListingRead}
-use Rattle.listing.specs.declared.ListingRead.the-variants as listing
 use Rattle.listing.specs.Reading.{linesOf, answerOf, headsLeft, triplesLeft}
-use Rattle.recheck.specs.declared.Recheck.{Recheck}
-use Rattle.recheck.specs.declared.Recheck.the-variants.{Accepted, Invalid, Short, NoStart, Violating, Open}
 use Rattle.recheck.specs.Recheck.{recheck}
 use Rattle.print.specs.Bytes.{lineBytes}
-use Rattle.refusal.specs.Refusal.{refusedWord, refusedBytes, unlessRefused}
+use Rattle.refusal.specs.Refusal.{refusedWord, unlessRefused}
 
 -- "accepted" and a line feed
 abbrev pub acceptedLine : List ℕ
 acceptedLine = 97 ∷ 99 ∷ 99 ∷ 101 ∷ 112 ∷ 116 ∷ 101 ∷ 100 ∷ 10 ∷ []
 
--- `refused`, 11, reason, rule, move
-abbrev pub openBytes : (reason rule move : ℕ) → List ℕ
-openBytes reason rule move = lineBytes refusedWord (11 ∷ reason ∷ rule ∷ move ∷ [])
+-- `refused`, number, and what is returned with it; or what an answer prints
+abbrev pub answerBytes : {A : Type 0} → (A → List ℕ) → Answer A → List ℕ
+answerBytes prints (answered a) = prints a
+answerBytes prints (refused number values) = lineBytes refusedWord (number ∷ values)
 
--- the answer of the check; of a valid model with arrays of its sizes it is none of the last two (proofs/Small)
-abbrev pub checkBytes : Recheck → List ℕ
-checkBytes Accepted = acceptedLine
-checkBytes NoStart = openBytes 1 0 0
-checkBytes Violating = openBytes 2 0 0
-checkBytes (Open r v) = openBytes 3 r v
-checkBytes Invalid = []
-checkBytes Short = []
+-- the answer of the check: of a valid model with arrays of its sizes it is no refusal but 11 (proofs/Small)
+abbrev pub checkBytes : Answer Acceptance → List ℕ
+checkBytes c = answerBytes (λ _. acceptedLine) c
 
 -- what the listing is read as
-abbrev pub listingRead : Model → List ℕ → ListingRead
+abbrev pub listingRead : Model → List ℕ → Answer ℕ
 listingRead m text = answerOf (linesOf m text)
 
--- an accepted listing is checked; it is none of the last two (proofs/Small), which have no line
-abbrev pub listingBytes : ListingRead → Recheck → List ℕ
-listingBytes (listing.Accepted rounds) c = checkBytes c
-listingBytes listing.TooLong c = refusedBytes 1 0
-listingBytes (listing.Malformed line) c = refusedBytes 2 line
-listingBytes (listing.Misplaced line) c = refusedBytes 3 line
-listingBytes (listing.OutOfRange line) c = refusedBytes 4 line
-listingBytes listing.Invalid c = []
-listingBytes listing.Short c = []
+-- an accepted listing is checked
+abbrev pub listingBytes : Answer ℕ → Answer Acceptance → List ℕ
+listingBytes heard c = answerBytes (λ rounds. checkBytes c) heard
 
 -- with the table that the reading leaves in two arrays
 unfoldable pub listingOutput : Model → (text heads triples : List ℕ) → List ℕ

@@ -1,12 +1,16 @@
 // What `pdrecheck` prints, from the text that it reads: the refusal of the model or of the listing behind it, or the answer of the table check.
+ghost use mathlib.Core.List.{[], _∷_};
 ghost use lib.Dec.{T};
 ghost use lib.ListN.{length, replicate};
 ghost use Rattle.lent.specs.Lending.{modelIn};
 ghost use Rattle.model.specs.Valid.{valid};
 ghost use Rattle.fitting.specs.Fits.{Fits};
 ghost use Rattle.text.specs.Put.{Put};
+ghost use Rattle.print.specs.Bytes.{lineBytes};
+ghost use Rattle.refusal.specs.Refusal.{refusedWord};
+ghost use Rattle.listing.specs.Reading.{meaning};
 ghost use Rattle.recheck.specs.Recheck.{recheck};
-ghost use Rattle.rereport.specs.Output.{openBytes, checkBytes, listingBytes, listingOutput, recheckOutput};
+ghost use Rattle.rereport.specs.Output.{checkBytes, listingBytes, listingOutput, recheckOutput};
 ghost use Rattle.rereport.specs.Heard.{Heard};
 use lent::Lent;
 use listing::ListingRead;
@@ -14,7 +18,7 @@ use recheck::Recheck;
 
 // Puts the line of a table that is not accepted.
 fn put_open(out: &mut [u8], reason: u16, rule: u16, by: u16) -> usize
-    ensures { λ r. ⌜ Put (now (out .entry)) (now (out .exit)) 0 r (openBytes reason rule by) ⌝ }
+    ensures { λ r. ⌜ Put (now (out .entry)) (now (out .exit)) 0 r (lineBytes refusedWord (11 ∷ reason ∷ rule ∷ by ∷ [])) ⌝ }
 {
     let row = [11, reason, rule, by];
     print::put_line(out, 0, b"refused", &row)
@@ -30,7 +34,7 @@ fn put_checked<'a>(out: &mut [u8], m: &'a Lent, heads: &'a [u16], triples: &'a [
         Recheck::Accepted => print::put_all(out, 0, b"accepted\n"),
         Recheck::NoStart => put_open(out, 1, 0, 0),
         Recheck::Violating => put_open(out, 2, 0, 0),
-        Recheck::Open(r, v) => put_open(out, 3, r as u16, v as u16),
+        Recheck::Open { rule, by } => put_open(out, 3, rule as u16, by as u16),
         Recheck::Invalid => 0,
         Recheck::Short => 0,
     }
@@ -45,7 +49,7 @@ fn put_heard<'a>(
     triples: &'a [u16],
 ) -> usize
     requires { ⌜ Heard (modelIn (now m)) heard (length (now heads)) (length (now triples)) ⌝ }
-    ensures { λ r. ⌜ Put (now (out .entry)) (now (out .exit)) 0 r (listingBytes heard (recheck (modelIn (now (m .entry))) (now (heads .entry)) (now (triples .entry)))) ⌝ }
+    ensures { λ r. ⌜ Put (now (out .entry)) (now (out .exit)) 0 r (listingBytes (meaning heard) (recheck (modelIn (now (m .entry))) (now (heads .entry)) (now (triples .entry)))) ⌝ }
 {
     match heard {
         ListingRead::Accepted(_) => put_checked(out, m, heads, triples),

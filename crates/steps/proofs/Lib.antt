@@ -3,3 +3,4 @@ pub mod Events
 pub mod Built
 pub mod Marks
 pub mod Laws
+pub mod Rows

@@ -9,14 +9,31 @@ ghost use Rattle.bits.specs.Matrix.{some};
 ghost use Rattle.lent.specs.Lending.{modelIn};
 ghost use Rattle.model.specs.Model.{shown};
 ghost use Rattle.steps.specs.Events.{eventSteps, withMove, marks, marked};
+ghost use Rattle.steps.specs.Rows.{RowAt};
 ghost use Rattle.steps.specs.Steps.{classOf, symbolOf, classSteps, statesAfter};
 use lent::Lent;
+
+// A rule by its numbers: its kind, its class, the symbol that it puts on top, and the one under that. Those that a rule does not use may be anything.
+pub struct Row {
+    pub kind: u8,
+    pub class: usize,
+    pub over: usize,
+    pub under: usize,
+}
 
 fn index(x: u8) -> usize
     ensures { λ r. ⌜ r ≡ x ⌝ }
     ensures { λ r. ⌜ r < 256 ⌝ }
 {
     x as usize
+}
+
+// A byte as a symbol: below 32, whatever stands in a number that is not in use.
+fn low(x: u8) -> usize
+    ensures { λ r. ⌜ r ≡ x % 32 ⌝ }
+    ensures { λ r. ⌜ r < 32 ⌝ }
+{
+    (x % 32) as usize
 }
 
 fn at_most(n: usize, most: usize) -> usize
@@ -132,6 +149,27 @@ pub fn class_of(m: &Lent, r: usize) -> usize
         return 0;
     }
     index(m[r * 4 + 1])
+}
+
+// Rule r by its numbers; zeros for a number from 256 on, which is no rule.
+pub fn row_at(m: &Lent, r: usize) -> Row
+    ensures { λ row. ⌜ RowAt (now (m .entry)) r row ⌝ }
+{
+    if 256 <= r {
+        return Row {
+            kind: 0,
+            class: 0,
+            over: 0,
+            under: 0,
+        };
+    }
+    let at = 4 * r;
+    Row {
+        kind: m[at],
+        class: index(m[at + 1]),
+        over: low(m[at + 2]),
+        under: low(m[at + 3]),
+    }
 }
 
 // The symbol of a class, whatever the number.

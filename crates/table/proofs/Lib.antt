@@ -1,7 +1,6 @@
 pub mod Bytes
 pub mod Cells
 pub mod Places
-pub mod Long
 pub mod Store
 pub mod LaidOut
 pub mod ReadBack

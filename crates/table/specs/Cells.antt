@@ -1,8 +1,8 @@
 -- The two arrays of a table: where the cell of a fact lies, what stands there, and a whole table laid out. Assumes nothing.
-use mathlib.Core.Bool.{Bool, cond, _&&_}
+use mathlib.Core.Bool.{cond, _&&_}
 use mathlib.Core.List.{List}
 use Prim.Native.Nat.{ℕ, zero, suc, _+_, _*_}
-use lib.Dec.{ltb, leb}
+use lib.Dec.{ltb}
 use lib.ListN.{getD, set}
 use Rattle.product.specs.Lists.{upTo, over, each}
 use Rattle.product.specs.Facts.{Fact, head, triple, same}
@@ -14,10 +14,6 @@ headCount G Q = Q * G
 
 abbrev pub tripleCount : (G Q : ℕ) → ℕ
 tripleCount G Q = Q * G * Q
-
--- arrays of these lengths have a cell for each; if not, it is refusal 7
-abbrev pub longEnough : (G Q : ℕ) → (heads triples : ℕ) → Bool
-longEnough G Q heads triples = leb (headCount G Q) heads && leb (tripleCount G Q) triples
 
 -- head (q, g) lies at q·G+g, and triple (q, g, e) at (q·G+g)·Q+e
 abbrev pub headCell : (G q g : ℕ) → ℕ

@@ -1,9 +1,10 @@
-// The two lent arrays of a table: 16-bit ranks, 65,535 for a fact that isn't held. Here alone is said where a fact's cell lies.
+// The two lent arrays of a table: 16-bit ranks, 65,535 for a fact that isn't held. Here alone is said what a fact is, and where its cell lies.
 ghost use mathlib.Core.Path.{_≡_};
 ghost use Prim.Native.Nat.{_≤_};
 ghost use lib.ListN.{length};
-ghost use Rattle.table.specs.Cells.{headCount, tripleCount, longEnough, headIn, tripleIn, putHead, putTriple, cleared};
-ghost use Rattle.table.specs.Places.{headPlace, triplePlace, readAt, putAt};
+ghost use Rattle.product.specs.Facts.{head};
+ghost use Rattle.table.specs.Cells.{headCount, tripleCount, view, cleared};
+ghost use Rattle.table.specs.Places.{factOf, placeOf, readAt, putAt};
 
 // The number that marks a fact that isn't held.
 pub const ABSENT: u16 = 65535;
@@ -14,8 +15,14 @@ pub struct Size {
     pub states: u8,
 }
 
+// A fact: a head, of a state and a symbol; or a triple, of a state, a symbol and the state in which the symbol is erased.
+pub enum Fact {
+    Head(usize, usize),
+    Triple(usize, usize, usize),
+}
+
 // Where the rank of a fact lies: in a cell; or nowhere, where the fact's numbers are out of range.
-enum Place {
+pub enum Place {
     Outside,
     Cell(usize),
 }
@@ -34,15 +41,9 @@ pub fn triple_count(size: Size) -> usize
     head_count(size) * (size.states as usize)
 }
 
-// The arrays have a cell for each head and each triple; if not, it is refusal 7.
-pub fn long_enough<'a>(heads: &'a [u16], triples: &'a [u16], size: Size) -> bool
-    ensures { λ b. ⌜ b ≡ longEnough (size .symbols) (size .states) (length (now (heads .entry))) (length (now (triples .entry))) ⌝ }
-{
-    head_count(size) <= heads.len() && triple_count(size) <= triples.len()
-}
-
-fn head_place(size: Size, q: usize, g: usize) -> Place
-    ensures { λ r. ⌜ r ≡ headPlace (size .symbols) (size .states) q g ⌝ }
+// The place of a head. The row of the triples from there has the same number.
+fn row(size: Size, q: usize, g: usize) -> Place
+    ensures { λ r. ⌜ r ≡ placeOf (size .symbols) (size .states) (head q g) ⌝ }
 {
     if size.states as usize <= q {
         return Place::Outside;
@@ -53,13 +54,17 @@ fn head_place(size: Size, q: usize, g: usize) -> Place
     Place::Cell(q * (size.symbols as usize) + g)
 }
 
-fn triple_place(size: Size, q: usize, g: usize, e: usize) -> Place
-    ensures { λ r. ⌜ r ≡ triplePlace (size .symbols) (size .states) q g e ⌝ }
+// The place of a fact, in the array of its kind.
+pub fn place_of(size: Size, f: Fact) -> Place
+    ensures { λ r. ⌜ r ≡ placeOf (size .symbols) (size .states) (factOf f) ⌝ }
 {
-    let row = head_place(size, q, g);
-    match row {
-        Place::Outside => Place::Outside,
-        Place::Cell(i) => {
+    match f {
+        Fact::Head(q, g) => row(size, q, g),
+        Fact::Triple(q, g, e) => {
+            let first = row(size, q, g);
+            let Place::Cell(i) = first else {
+                return Place::Outside;
+            };
             if size.states as usize <= e {
                 return Place::Outside;
             }
@@ -68,7 +73,8 @@ fn triple_place(size: Size, q: usize, g: usize, e: usize) -> Place
     }
 }
 
-fn read(cells: &[u16], place: Place) -> u16
+// The rank at a place: 65,535 where there is none, and 0 past the end of the array.
+pub fn read(cells: &[u16], place: Place) -> u16
     ensures { λ r. ⌜ r ≡ readAt (now (cells .entry)) place ⌝ }
 {
     match place {
@@ -82,8 +88,8 @@ fn read(cells: &[u16], place: Place) -> u16
     }
 }
 
-// A rank that has no cell is let be.
-fn put(cells: &mut [u16], place: Place, n: u16)
+// Puts the rank n at a place; where there is none, or past the end of the array, nothing changes.
+pub fn put(cells: &mut [u16], place: Place, n: u16)
     ensures { λ _. ⌜ now (cells .exit) ≡ putAt (now (cells .entry)) place n ⌝ }
 {
     match place {
@@ -96,32 +102,15 @@ fn put(cells: &mut [u16], place: Place, n: u16)
     }
 }
 
-// The rank of a head; one whose numbers are out of range is absent.
-pub fn head_at(heads: &[u16], size: Size, q: usize, g: usize) -> u16
-    ensures { λ r. ⌜ r ≡ headIn (size .symbols) (size .states) (now (heads .entry)) q g ⌝ }
+// The rank of a fact; one whose numbers are out of range is absent.
+pub fn rank_at<'a>(heads: &'a [u16], triples: &'a [u16], size: Size, f: Fact) -> u16
+    ensures { λ r. ⌜ r ≡ view (size .symbols) (size .states) (now (heads .entry)) (now (triples .entry)) (factOf f) ⌝ }
 {
-    read(heads, head_place(size, q, g))
-}
-
-// The rank of a triple, likewise.
-pub fn triple_at(triples: &[u16], size: Size, q: usize, g: usize, e: usize) -> u16
-    ensures { λ r. ⌜ r ≡ tripleIn (size .symbols) (size .states) (now (triples .entry)) q g e ⌝ }
-{
-    read(triples, triple_place(size, q, g, e))
-}
-
-// Gives a head the rank n; one that has no cell is let be.
-pub fn put_head(heads: &mut [u16], size: Size, q: usize, g: usize, n: u16)
-    ensures { λ _. ⌜ now (heads .exit) ≡ putHead (size .symbols) (size .states) (now (heads .entry)) q g n ⌝ }
-{
-    put(heads, head_place(size, q, g), n);
-}
-
-// Gives a triple the rank n, likewise.
-pub fn put_triple(triples: &mut [u16], size: Size, q: usize, g: usize, e: usize, n: u16)
-    ensures { λ _. ⌜ now (triples .exit) ≡ putTriple (size .symbols) (size .states) (now (triples .entry)) q g e n ⌝ }
-{
-    put(triples, triple_place(size, q, g, e), n);
+    let place = place_of(size, f);
+    match f {
+        Fact::Head(_, _) => read(heads, place),
+        Fact::Triple(_, _, _) => read(triples, place),
+    }
 }
 
 // Marks the first n cells absent.

@@ -8,7 +8,7 @@ use lib.Dec.{T}
 use lib.ListN.{length}
 use Rattle.product.specs.Lists.{over, each, All}
 use Rattle.product.specs.Product.{Product, Rule, exit, direct, call, Step, stored, ruleOf}
-use Rattle.product.specs.Facts.{Fact, head, triple, Way, needs, same, first, ways}
+use Rattle.product.specs.Facts.{Fact, Way, needs, same, first, ways}
 use Rattle.product.specs.Rounds.{works, held, Rank}
 use Rattle.product.specs.Table.{Table, ranks}
 use Rattle.product.specs.Trace.{explanation, along, alongFound, trace}
@@ -17,13 +17,16 @@ use Rattle.product.proofs.Rounds.{In, of-works, grown-up}
 use Rattle.product.proofs.Ranks.{ranks-rank}
 use Rattle.product.proofs.Falling.{along-same, unfolded, trace-later, trace-falls}
 use Rattle.product.proofs.Ways.{EachWay, steps-ways}
+use Rattle.table.specs.declared.Fact as code
+use Rattle.table.specs.Places.{factOf}
+use Rattle.table.proofs.Places.{fact-back}
 use Rattle.culprit.specs.declared.Goal.{Goal}
-use Rattle.culprit.specs.declared.Goal.the-variants.{Head, Triple, Nothing}
+use Rattle.culprit.specs.declared.Goal.the-variants.{Nothing, Of}
 use Rattle.explain.specs.declared.Cause.{Cause}
 use Rattle.explain.specs.declared.Found.{Found}
 use Rattle.explain.specs.declared.Found.the-variants.{By, Nowhere}
 use Rattle.explain.specs.Search.{byRank}
-use Rattle.explain.specs.Answers.{firstIn, secondIn, causeOf, foundAs, rankOf}
+use Rattle.explain.specs.Answers.{firstIn, secondIn, causeOf, foundAs, explained}
 use Rattle.culprit.specs.Culprit.{goalOf}
 use Rattle.trace.specs.Unfold.{Explains, HeldFor, stepsFor, Unfolded}
 use Rattle.culprit.proofs.First.{find-elim}
@@ -46,8 +49,7 @@ ways-short p = steps-ways p Short (λ s q q′ _. short s q q′ (ruleOf p s))
 
 module _ (t : Fact → List Step) where
   goal-steps : (f : Fact) → stepsFor t (goalOf f) ≡ t f
-  goal-steps (head q g) = refl
-  goal-steps (triple q g e) = refl
+  goal-steps f = ap t (fact-back f)
 
   over-one : (xs : List Fact) → length xs ≤ 1 → over xs t ≡ stepsFor t (firstIn xs)
   over-one [] l = refl
@@ -91,7 +93,7 @@ pub record Runs (p : Product) (n : ℕ) (f : Goal) (c : Cause) : Type 0 where
   pub second-held : HeldFor p n (c .second)
   pub runs : numbers p n f ≡ numbers p n (c .before) ++ ((c .rule * 128 + c .by) ∷ (numbers p n (c .first) ++ numbers p n (c .second)))
 
-module _ (p : Product) (n : ℕ) (t : Table) (why : ℕ → Goal → Option Way) (E : Explains p n t why) where
+module _ (p : Product) (n : ℕ) (t : Table) (why : ℕ → Fact → Option Way) (E : Explains p n t why) where
   -- of rank 0 is the start head alone, which has no step
   start-steps : (f : Fact) → T (held p n f) → t f ≡ 0 → trace p n f ≡ []
   unfolding trace
@@ -99,20 +101,23 @@ module _ (p : Product) (n : ℕ) (t : Table) (why : ℕ → Goal → Option Way)
       let r : Rank p f 0 = subst (Rank p f) (sym (E .rank f h) ∙ z) (ranks-rank p n f h) in
       trace-later p 0 n f (omega arith) (r .0)
 
-  module _ (f : Fact) (h : T (held p n f)) (k : ℕ) (is : suc k ≡ t f) where
+  module _ (d : code.Fact) (h : T (held p n (factOf d))) (k : ℕ) (is : suc k ≡ t (factOf d)) where
+    abbrev f : Fact
+    f = factOf d
+
     rank-of : Rank p f (suc k)
     rank-of = subst (Rank p f) (sym (is ∙ E .rank f h)) (ranks-rank p n f h)
 
     not-late : suc k ≤ n
     not-late = rank-of .1 n h
 
-    way-of : why (suc k) (goalOf f) ≡ explanation p k f
+    way-of : why (suc k) f ≡ explanation p k f
     way-of = E .way k f not-late h
 
-    none-steps : why (suc k) (goalOf f) ≡ none → trace p n f ≡ []
+    none-steps : why (suc k) f ≡ none → trace p n f ≡ []
     none-steps e = trace-by p n f k rank-of not-late ∙ ap (alongFound (trace p n)) (sym way-of ∙ e)
 
-    some-runs : (w : Way) → why (suc k) (goalOf f) ≡ some w → Runs p n (goalOf f) (causeOf w)
+    some-runs : (w : Way) → why (suc k) f ≡ some w → Runs p n (Of d) (causeOf w)
     some-runs w e =
         let x : explanation p k f ≡ some w = sym way-of ∙ e in
         let (i, u) = find-elim (works (held p k) f) (ways p) w x in
@@ -125,50 +130,48 @@ module _ (p : Product) (n : ℕ) (t : Table) (why : ℕ → Goal → Option Way)
           first-held = first-of (HeldFor p n) tt (w .after) c;
           second-held = second-of (HeldFor p n) tt (w .after) c;
           runs =
-              ap (λ ss. each ss stored) (goal-steps (trace p n) f ∙ trace-by p n f k rank-of not-late ∙ ap (alongFound (trace p n)) x ∙ along-short (trace p n) w (All-at Short (ways p) (ways-short p) w i))
+              ap (λ ss. each ss stored) (trace-by p n f k rank-of not-late ∙ ap (alongFound (trace p n)) x ∙ along-short (trace p n) w (All-at Short (ways p) (ways-short p) w i))
               ∙ parts (stepsFor (trace p n) (firstIn (w .before))) (w .by) (stepsFor (trace p n) (firstIn (w .after))) (stepsFor (trace p n) (secondIn (w .after)));
         }
       where
         goal-held : (d : Fact) → T (held p k d) → HeldFor p n (goalOf d)
-        goal-held (head q g) u = up p n k (omega (arith, not-late)) (head q g) u
-        goal-held (triple q g e) u = up p n k (omega (arith, not-late)) (triple q g e) u
+        goal-held d u = subst⁻¹ (λ d. T (held p n d)) (fact-back d) (up p n k (omega (arith, not-late)) d u)
 
         parts : (xs : List Step) (s : Step) (bs cs : List Step) → each (xs ++ s ∷ (bs ++ cs)) stored ≡ each xs stored ++ (stored s ∷ (each bs stored ++ each cs stored))
         parts xs s bs cs = over-append xs (s ∷ (bs ++ cs)) (λ s. stored s ∷ []) ∙ ap (λ l. each xs stored ++ (stored s ∷ l)) (over-append bs cs (λ s. stored s ∷ []))
 
-    cause-runs : {d : Found} → d ≡ foundAs (why (suc k) (goalOf f)) → {c : Cause} → d ≡ By c → Runs p n (goalOf f) c
+    cause-runs : {a : Found} → a ≡ foundAs (why (suc k) f) → {c : Cause} → a ≡ By c → Runs p n (Of d) c
     cause-runs read told =
-        let (w, e, by) = found-some (why (suc k) (goalOf f)) read told in
-        subst⁻¹ (Runs p n (goalOf f)) (same-cause by) (some-runs w e)
+        let (w, e, by) = found-some (why (suc k) f) read told in
+        subst⁻¹ (Runs p n (Of d)) (same-cause by) (some-runs w e)
 
-  -- the same of a fact that is asked for, if one is
-  start-numbers : (f : Goal) → HeldFor p n f → rankOf t f ≡ 0 → numbers p n f ≡ []
-  start-numbers Nothing h z = refl
-  start-numbers (Head q g) h z = ap (λ ss. each ss stored) (start-steps (head q g) h z)
-  start-numbers (Triple q g e) h z = ap (λ ss. each ss stored) (start-steps (triple q g e) h z)
+  -- the same of the fact that is asked for, if one is
+  pub none-numbers : (f : Goal) → HeldFor p n f → {d : Found} → d ≡ foundAs (explained why t f) → d ≡ Nowhere → numbers p n f ≡ []
+  none-numbers Nothing h read told = refl
+  none-numbers (Of f) h read told = ap (λ ss. each ss stored) (go (t (factOf f)) refl (found-none (byRank why (factOf f) (t (factOf f))) read told))
+    where
+      go : (k : ℕ) → k ≡ t (factOf f) → byRank why (factOf f) k ≡ none → trace p n (factOf f) ≡ []
+      go zero is e = start-steps (factOf f) h (sym is)
+      go (suc k) is e = none-steps f h k is e
 
-  pub none-numbers : (f : Goal) → HeldFor p n f → (k : ℕ) → k ≡ rankOf t f → {d : Found} → d ≡ foundAs (byRank why f k) → d ≡ Nowhere → numbers p n f ≡ []
-  none-numbers f h zero is read told = start-numbers f h (sym is)
-  none-numbers Nothing h (suc k) is read told = refl
-  none-numbers (Head q g) h (suc k) is read told = ap (λ ss. each ss stored) (none-steps (head q g) h k is (found-none (why (suc k) (Head q g)) read told))
-  none-numbers (Triple q g e) h (suc k) is read told = ap (λ ss. each ss stored) (none-steps (triple q g e) h k is (found-none (why (suc k) (Triple q g e)) read told))
-
-  pub found-runs : (f : Goal) → HeldFor p n f → (k : ℕ) → k ≡ rankOf t f → {d : Found} → d ≡ foundAs (byRank why f k) → {c : Cause} → d ≡ By c → Runs p n f c
-  found-runs f h zero is read told = let z : _≡_ {A = ℕ} 0 1 = cc in absurd (omega arith)
-  found-runs Nothing h (suc k) is read told = absurd (omega (arith, is))
-  found-runs (Head q g) h (suc k) is read told = cause-runs (head q g) h k is read told
-  found-runs (Triple q g e) h (suc k) is read told = cause-runs (triple q g e) h k is read told
+  pub found-runs : (f : Goal) → HeldFor p n f → {d : Found} → d ≡ foundAs (explained why t f) → {c : Cause} → d ≡ By c → Runs p n f c
+  found-runs Nothing h read told = let z : _≡_ {A = ℕ} 0 1 = cc in absurd (omega arith)
+  found-runs (Of f) h read told = go (t (factOf f)) refl read told
+    where
+      go : (k : ℕ) → k ≡ t (factOf f) → {d : Found} → d ≡ foundAs (byRank why (factOf f) k) → {c : Cause} → d ≡ By c → Runs p n (Of f) c
+      go zero is read told = let z : _≡_ {A = ℕ} 0 1 = cc in absurd (omega arith)
+      go (suc k) is read told = cause-runs f h k is read told
 
 -- what a call writes, by the way that it takes
-module _ (t : Table) (why : ℕ → Goal → Option Way) (f : Goal) {room : List ℕ} {at : ℕ} where
+module _ (t : Table) (why : ℕ → Fact → Option Way) (f : Goal) {room : List ℕ} {at : ℕ} where
   pub unfolded-cut : length room < at → at ≤ length room + 1 → Unfolded t why f room at at room
   unfolded-cut l i = record { within = i; steps = λ p n E h. past-put (numbers p n f) l i }
 
-  module _ (i : at ≤ length room + 1) {d : Found} (read : d ≡ foundAs (byRank why f (rankOf t f))) where
+  module _ (i : at ≤ length room + 1) {d : Found} (read : d ≡ foundAs (explained why t f)) where
     pub unfolded-none : d ≡ Nowhere → Unfolded t why f room at at room
     unfolded-none told = record {
       within = i;
-      steps = λ p n E h. subst⁻¹ (λ l. Put room room at at l) (none-numbers p n t why E f h (rankOf t f) refl read told) (none-put room at (omega arith));
+      steps = λ p n E h. subst⁻¹ (λ l. Put room room at at l) (none-numbers p n t why E f h read told) (none-put room at (omega arith));
     }
 
     pub unfolded-by : {c : Cause} → d ≡ By c → {r1 r2 r3 r4 : ℕ} {room1 room2 room3 room4 : List ℕ}
@@ -178,7 +181,7 @@ module _ (t : Table) (why : ℕ → Goal → Option Way) (f : Goal) {room : List
     unfolded-by {c} told {r4 = r4} {room4 = room4} u w v x last = record {
       within = last;
       steps = λ p n E h.
-          let R : Runs p n f c = found-runs p n t why E f h (rankOf t f) refl read told in
+          let R : Runs p n f c = found-runs p n t why E f h read told in
           subst⁻¹ (λ l. Put room room4 at r4 l) (R .runs)
           (then-put (u .steps p n E (R .before-held)) (then-put w (then-put (v .steps p n E (R .first-held)) (x .steps p n E (R .second-held)))));
     }

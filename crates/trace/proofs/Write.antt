@@ -1,7 +1,7 @@
 -- The trace of the violating fact is the trace of the verdict; and whether it fits. Assumes nothing.
 use mathlib.Core.List.{List}
 use mathlib.Core.Option.{Option, none, some}
-use mathlib.Core.Path.{_≡_, refl, ap, _∙_, subst, subst⁻¹}
+use mathlib.Core.Path.{_≡_, refl, sym, ap, _∙_, subst, subst⁻¹}
 use mathlib.Core.Bool.{_&&_}
 use Prim.Native.Nat.{ℕ, _<_, _≤_}
 use native.Mathlib.Omega.{arith}
@@ -10,10 +10,9 @@ use borrow.Author.Tests.{le-leb, lt-leb}
 use lib.ListN.{length}
 use Rattle.product.specs.Lists.{each}
 use Rattle.product.specs.Product.{Product, Step, stored}
-use Rattle.product.specs.Facts.{Fact, head, triple, cells}
+use Rattle.product.specs.Facts.{Fact, cells}
 use Rattle.product.specs.Rounds.{held}
 use Rattle.product.specs.Verdict.{violating}
-use Rattle.product.specs.Table.{Table}
 use Rattle.product.specs.Trace.{culprit, trace, traceTo}
 use Rattle.product.proofs.Lists.{and-right, length-each}
 use Rattle.model.specs.declared.Model.{Model}
@@ -22,11 +21,14 @@ use Rattle.lent.specs.Lending.{shapeIn, ofLent, modelIn, productIn}
 use Rattle.model.specs.Model.{productOf}
 use Rattle.model.proofs.Bounds.{start-state-in, start-symbol-in}
 use Rattle.text.specs.Put.{Put}
+use Rattle.table.specs.declared.Size.{Size}
 use Rattle.table.specs.Cells.{view}
+use Rattle.fitting.specs.Fits.{sizeOf}
+use Rattle.table.proofs.Places.{fact-back}
 use Rattle.culprit.specs.declared.Goal.{Goal}
 use Rattle.trace.specs.declared.Traced.{Traced}
 use Rattle.trace.specs.declared.Traced.the-variants.{Found, Cut}
-use Rattle.culprit.specs.Culprit.{goalOf, goalAs, culpritIn}
+use Rattle.culprit.specs.Culprit.{goalAs, culpritIn}
 use Rattle.explain.specs.Search.{whyIn}
 use Rattle.trace.specs.Unfold.{HeldFor, stepsFor, Unfolded}
 use Rattle.trace.specs.Written.{Ranked, violationSteps, Written}
@@ -37,16 +39,11 @@ use Rattle.trace.proofs.Ranked.{explains-ranked}
 module _ (p : Product) (n : ℕ) where
   goal-held : (o : Option Fact) → culprit p n ≡ o → HeldFor p n (goalAs o)
   goal-held none e = tt
-  goal-held (some f) e = go f (and-right (violating p f) (held p n f) (find-elim (λ f. violating p f && held p n f) (cells p) f e .1))
-    where
-      go : (f : Fact) → T (held p n f) → HeldFor p n (goalOf f)
-      go (head q g) h = h
-      go (triple q g e) h = h
+  goal-held (some f) e = subst⁻¹ (λ f. T (held p n f)) (fact-back f) (and-right (violating p f) (held p n f) (find-elim (λ f. violating p f && held p n f) (cells p) f e .1))
 
   goal-trace : (o : Option Fact) → stepsFor (trace p n) (goalAs o) ≡ traceTo p n o
   goal-trace none = refl
-  goal-trace (some (head q g)) = refl
-  goal-trace (some (triple q g e)) = refl
+  goal-trace (some f) = ap (trace p n) (fact-back f)
 
 module _ (m : Model) (n : ℕ) (hs ts : List ℕ) (R : Ranked m n hs ts) {f : Goal}
     (taken : f ≡ goalAs (culpritIn (productOf m .final) (m .symbols) (m .states) hs ts (m .startstate) (m .startsymbol))) {room room′ : List ℕ} {at : ℕ}
@@ -76,13 +73,25 @@ module _ (m : Model) (n : ℕ) (hs ts : List ℕ) (R : Ranked m n hs ts) {f : Go
     cells = wrote .cells;
   }
 
--- what was unfolded by the lent model, of the shape that was read; and the whole by that shape
+-- what was found and unfolded by the lent model and its size, of the shape that was read; and the whole by that shape
 module _ (cells : List ℕ) {s : Shape} (read : s ≡ shapeIn cells) where
-  pub by-shape : (t : Table) (G Q : ℕ) (hs ts : List ℕ) (n k : ℕ) {f : Goal} {room room′ : List ℕ} {at at′ : ℕ}
-      → Unfolded t (whyIn (productIn cells) G Q hs ts n k) f room at at′ room′ → Unfolded t (whyIn (productOf (ofLent s cells)) G Q hs ts n k) f room at at′ room′
-  unfolding modelIn
-  by-shape t G Q hs ts n k {f} {room} {room′} {at} {at′} =
-      subst⁻¹ (λ (s : Shape). Unfolded t (whyIn (productOf (ofLent s cells)) G Q hs ts n k) f room at at′ room′) read
+  module _ {z : Size} (asked : z ≡ sizeOf (modelIn cells)) where
+    size-is : z ≡ sizeOf (ofLent s cells)
+    unfolding modelIn
+    size-is = asked ∙ sym (ap (λ (s : Shape). sizeOf (ofLent s cells)) read)
+
+    pub taken-by : (hs ts : List ℕ) (q g : ℕ) {f : Goal} → f ≡ goalAs (culpritIn (productIn cells .final) (z .symbols) (z .states) hs ts q g)
+        → f ≡ goalAs (culpritIn (productOf (ofLent s cells) .final) (s .symbols) (s .states) hs ts q g)
+    unfolding modelIn
+    taken-by hs ts q g e = e ∙ ap (λ (z : Size). goalAs (culpritIn (productIn cells .final) (z .symbols) (z .states) hs ts q g)) size-is
+
+    pub unfolded-by : (hs ts : List ℕ) (n k : ℕ) {f : Goal} {room room′ : List ℕ} {at at′ : ℕ}
+        → Unfolded (view (z .symbols) (z .states) hs ts) (whyIn (productIn cells) (z .symbols) (z .states) hs ts n k) f room at at′ room′
+        → Unfolded (view (s .symbols) (s .states) hs ts) (whyIn (productOf (ofLent s cells)) (s .symbols) (s .states) hs ts n k) f room at at′ room′
+    unfolding modelIn
+    unfolded-by hs ts n k {f} {room} {room′} {at} {at′} u =
+        subst⁻¹ (λ (x : Shape). Unfolded (view (s .symbols) (s .states) hs ts) (whyIn (productOf (ofLent x cells)) (s .symbols) (s .states) hs ts n k) f room at at′ room′) read
+        (subst (λ (z : Size). Unfolded (view (z .symbols) (z .states) hs ts) (whyIn (productIn cells) (z .symbols) (z .states) hs ts n k) f room at at′ room′) size-is u)
 
   pub ranked-by : {n : ℕ} {hs ts : List ℕ} → Ranked (modelIn cells) n hs ts → Ranked (ofLent s cells) n hs ts
   unfolding modelIn

@@ -8,23 +8,22 @@ use lib.ListN.{length}
 use lib.Seq.{sets}
 use Rattle.product.specs.Lists.{each}
 use Rattle.product.specs.Product.{stored}
-use Rattle.product.specs.Verdict.{violation, safe}
+use Rattle.product.specs.Answer.{Answer, answered, refused}
+use Rattle.product.specs.Verdict.{Verdict, violation, safe}
 use Rattle.product.specs.Trace.{traceOf}
 use Rattle.model.specs.declared.Model.{Model}
 use Rattle.model.specs.Model.{productOf}
-use Rattle.decide.specs.Decided as decide
-use Rattle.decide.specs.Decided.{verdict, decision, headsLeft, triplesLeft}
+use Rattle.decide.specs.Decided.{decision, headsLeft, triplesLeft}
 use Rattle.trace.specs.declared.Traced.{Traced}
 use Rattle.trace.specs.declared.Traced.the-variants.{Found, Invalid, Short, Spent, Safe, Cut}
 
--- a whole trace, with the rounds of its verdict and its number of steps; or a refusal by its number, with the values returned
-pub data Answer : Type 0 where
-  traced : (rounds steps : ℕ) → Answer
-  refused : (number : ℕ) → (values : List ℕ) → Answer
+-- a whole trace: the rounds of its verdict, and its number of steps
+pub data Trace : Type 0 where
+  traced : (rounds steps : ℕ) → Trace
 
--- what each case of the code's answer means
-abbrev pub meaning : Traced → Answer
-meaning (Found n k) = traced n k
+-- the document's number and values of each answer; without a refusal, the whole trace
+abbrev pub meaning : Traced → Answer Trace
+meaning (Found n k) = answered (traced n k)
 meaning Invalid = refused 6 (0 ∷ [])
 meaning Short = refused 7 (0 ∷ [])
 meaning (Spent b) = refused 8 (b ∷ [])
@@ -32,19 +31,19 @@ meaning (Safe n) = refused 9 (n ∷ [])
 meaning (Cut n room) = refused 10 (n ∷ room ∷ [])
 
 -- a trace of so many steps fits the room, or is cut
-abbrev pub fits : (rounds steps room : ℕ) → Answer
-fits n steps room = cond (leb steps room) (traced n steps) (refused 10 (n ∷ room ∷ []))
+abbrev pub fits : (rounds steps room : ℕ) → Answer Trace
+fits n steps room = cond (leb steps room) (answered (traced n steps)) (refused 10 (n ∷ room ∷ []))
 
 -- the answer by the decision's: a refusal of it stands, safe is 9, and a violation is traced
-abbrev pub tracedBy : Model → (room : ℕ) → decide.Answer → Answer
-tracedBy m room (verdict (violation n)) = fits n (length (traceOf (productOf m) (violation n))) room
-tracedBy m room (verdict (safe n)) = refused 9 (n ∷ [])
-tracedBy m room (decide.refused number values) = refused number values
+abbrev pub tracedBy : Model → (room : ℕ) → Answer Verdict → Answer Trace
+tracedBy m room (answered (violation n)) = fits n (length (traceOf (productOf m) (violation n))) room
+tracedBy m room (answered (safe n)) = refused 9 (n ∷ [])
+tracedBy m room (refused number values) = refused number values
 
 -- the steps that are written, as they are stored: those of a violation's trace
-abbrev pub stepsBy : Model → decide.Answer → List ℕ
-stepsBy m (verdict v) = each (traceOf (productOf m) v) stored
-stepsBy m (decide.refused number values) = []
+abbrev pub stepsBy : Model → Answer Verdict → List ℕ
+stepsBy m (answered v) = each (traceOf (productOf m) v) stored
+stepsBy m (refused number values) = []
 
 -- The contract: the answer r, and the arrays afterwards. The heads and triples are as the decision leaves them; in the room stand the steps from its
 -- first cell on, as far as it has cells, and every other cell is as it was.

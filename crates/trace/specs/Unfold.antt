@@ -2,20 +2,19 @@
 use mathlib.Core.List.{List, []}
 use mathlib.Core.Option.{Option}
 use mathlib.Core.Path.{_≡_}
-use Prim.Native.Nat.{ℕ, suc, _+_, _≤_, _<_, min}
+use Prim.Native.Nat.{ℕ, suc, _+_, _≤_, _<_}
 use lib.Dec.{T}
 use lib.ListN.{length}
-use lib.Seq.{sets}
 use Rattle.product.specs.Lists.{each}
 use Rattle.product.specs.Product.{Product, Step, stored}
-use Rattle.product.specs.Facts.{Fact, head, triple, Way}
+use Rattle.product.specs.Facts.{Fact, Way}
 use Rattle.product.specs.Rounds.{held}
 use Rattle.product.specs.Table.{Table, ranks}
 use Rattle.product.specs.Trace.{explanation, trace}
 use Rattle.text.specs.Put.{Put}
+use Rattle.table.specs.Places.{factOf}
 use Rattle.culprit.specs.declared.Goal.{Goal}
-use Rattle.culprit.specs.declared.Goal.the-variants.{Head, Triple, Nothing}
-use Rattle.culprit.specs.Culprit.{goalOf}
+use Rattle.culprit.specs.declared.Goal.the-variants.{Nothing, Of}
 
 -- the numbers of rules and moves can be stored, and the place is one of the room
 pub record Storable (rules moves at room : ℕ) : Type 0 where
@@ -24,22 +23,20 @@ pub record Storable (rules moves at room : ℕ) : Type 0 where
   pub place-in : at ≤ room + 1
 
 -- the ranks of t are those of the product p up to round n, and the explanations of `why` are those of p
-pub record Explains (p : Product) (n : ℕ) (t : Table) (why : ℕ → Goal → Option Way) : Type 0 where
+pub record Explains (p : Product) (n : ℕ) (t : Table) (why : ℕ → Fact → Option Way) : Type 0 where
   pub rank : (f : Fact) → T (held p n f) → t f ≡ ranks p n f
-  pub way : (k : ℕ) (f : Fact) → k < n → T (held p n f) → why (suc k) (goalOf f) ≡ explanation p k f
+  pub way : (k : ℕ) (f : Fact) → k < n → T (held p n f) → why (suc k) f ≡ explanation p k f
 
 -- the fact that is asked for is held after round n; and its steps
 abbrev pub HeldFor : Product → ℕ → Goal → Type 0
 HeldFor p n Nothing = Unit {0}
-HeldFor p n (Head q g) = T (held p n (head q g))
-HeldFor p n (Triple q g e) = T (held p n (triple q g e))
+HeldFor p n (Of f) = T (held p n (factOf f))
 
 abbrev pub stepsFor : (Fact → List Step) → Goal → List Step
 stepsFor t Nothing = []
-stepsFor t (Head q g) = t (head q g)
-stepsFor t (Triple q g e) = t (triple q g e)
+stepsFor t (Of f) = t (factOf f)
 
 -- whatever product is explained, the trace of the fact was written
-pub record Unfolded (t : Table) (why : ℕ → Goal → Option Way) (f : Goal) (room : List ℕ) (at r : ℕ) (room′ : List ℕ) : Type 0 where
+pub record Unfolded (t : Table) (why : ℕ → Fact → Option Way) (f : Goal) (room : List ℕ) (at r : ℕ) (room′ : List ℕ) : Type 0 where
   pub within : r ≤ length room + 1
   pub steps : (p : Product) (n : ℕ) → Explains p n t why → HeldFor p n f → Put room room′ at r (each (stepsFor (trace p n) f) stored)

@@ -3,10 +3,9 @@ ghost use mathlib.Core.Path.{_≡_};
 ghost use mathlib.Core.List.{[], _∷_};
 ghost use Prim.Native.Nat.{_+_, _*_, _<_};
 ghost use lib.ListN.{length};
-ghost use Rattle.lent.specs.Lending.{shapeIn, ofLent, modelIn, productIn};
+ghost use Rattle.lent.specs.Lending.{shapeIn, ofLent, modelIn};
 ghost use Rattle.text.specs.Put.{Put};
-ghost use Rattle.table.specs.Cells.{view};
-ghost use Rattle.explain.specs.Search.{whyIn};
+ghost use Rattle.explain.specs.Answers.{tableIn, searchIn};
 ghost use Rattle.trace.specs.Unfold.{Storable, Unfolded};
 ghost use Rattle.trace.specs.Written.{Ranked, Written};
 ghost use Rattle.trace.specs.Outcome.{Outcome};
@@ -16,16 +15,21 @@ use explain::Counts;
 use explain::Found;
 use lent::Lent;
 use model::Shape;
-use table::Size;
 
 // The answer of the call: the trace was found, with its rounds and steps; or a refusal, whose number specs/Outcome.antt says.
 pub enum Traced {
-    Found(u16, usize),
+    Found { rounds: u16, steps: usize },
     Invalid,
     Short,
     Spent(u32),
     Safe(u16),
-    Cut(u16, usize),
+    Cut { rounds: u16, room: usize },
+}
+
+// A run that is to be written: the fact whose run it is, or none, and the place of its first step.
+struct Run {
+    of: Goal,
+    at: usize,
 }
 
 // Writes a step, if there is room, and gives the next place: one past the end of the room where it was cut.
@@ -40,34 +44,34 @@ fn put(room: &mut [u16], at: usize, rule: usize, by: usize) -> usize
     at + 1
 }
 
-// Writes the steps of a fact from the place `at` on, and gives the place after them. Where it is cut already it ends at once: an unfolding can be
-// exponential in the rank.
+// Writes the steps of a run, and gives the place after them. Where it is cut already it ends at once: an unfolding can be exponential in the rank.
 fn unfold_fact<'a>(
     room: &mut [u16],
     m: &'a Lent,
     heads: &'a [u16],
     triples: &'a [u16],
     n: Counts,
-    f: Goal,
-    at: usize,
+    run: Run,
 ) -> usize
-    requires { ⌜ Storable (n .rules) (n .moves) at (length (now room)) ⌝ }
-    ensures { λ r. ⌜ Unfolded (view (n .size .symbols) (n .size .states) (now (heads .entry)) (now (triples .entry))) (whyIn (productIn (now (m .entry))) (n .size .symbols) (n .size .states) (now (heads .entry)) (now (triples .entry)) (n .rules) (n .moves)) f (now (room .entry)) at r (now (room .exit)) ⌝ }
+    requires { ⌜ Storable (n .rules) (n .moves) (run .at) (length (now room)) ⌝ }
+    ensures { λ r. ⌜ Unfolded (tableIn n (now (heads .entry)) (now (triples .entry))) (searchIn (now (m .entry)) n (now (heads .entry)) (now (triples .entry))) (run .of) (now (room .entry)) (run .at) r (now (room .exit)) ⌝ }
 {
+    let at = run.at;
     if room.len() < at {
         return at;
     }
+    let f = run.of;
     let w = explain::explain(m, heads, triples, n, f);
     match w {
         Found::Nowhere => at,
         Found::By(c) => {
-            let before = c.before;
-            let first = c.first;
-            let second = c.second;
-            let here = unfold_fact(room, m, heads, triples, n, before, at);
-            let next = put(room, here, c.rule, c.by);
-            let then = unfold_fact(room, m, heads, triples, n, first, next);
-            unfold_fact(room, m, heads, triples, n, second, then)
+            let of = c.before;
+            let here = unfold_fact(room, m, heads, triples, n, Run { of, at });
+            let at = put(room, here, c.rule, c.by);
+            let of = c.first;
+            let at = unfold_fact(room, m, heads, triples, n, Run { of, at });
+            let of = c.second;
+            unfold_fact(room, m, heads, triples, n, Run { of, at })
         }
     }
 }
@@ -85,23 +89,26 @@ fn write_trace<'a>(
     requires { ⌜ Ranked (ofLent shape (now m)) n (now heads) (now triples) ⌝ }
     ensures { λ r. ⌜ Written (ofLent shape (now (m .entry))) n (now (room .entry)) r (now (room .exit)) ⌝ }
 {
-    let size = Size {
-        symbols: shape.symbols,
-        states: shape.states,
-    };
+    let size = fitting::size_of(m);
     let q = shape.startstate as usize;
     let g = shape.startsymbol as usize;
-    let f = culprit::culprit(m, heads, triples, size, q, g);
+    let of = culprit::culprit(m, heads, triples, size, q, g);
     let counts = Counts {
         size,
         rules: shape.rules,
         moves: shape.moves,
     };
-    let at = unfold_fact(room, m, heads, triples, counts, f, 0);
+    let at = unfold_fact(room, m, heads, triples, counts, Run { of, at: 0 });
     if room.len() < at {
-        return Traced::Cut(n, room.len());
+        return Traced::Cut {
+            rounds: n,
+            room: room.len(),
+        };
     }
-    Traced::Found(n, at)
+    Traced::Found {
+        rounds: n,
+        steps: at,
+    }
 }
 
 // Decides a model within a budget of rounds, and then writes the trace of a violation into the room, as far as it fits. A room of 0 cells is a room.

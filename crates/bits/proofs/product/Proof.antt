@@ -1,4 +1,4 @@
--- `bits::product` meets its contract. Assumes nothing.
+-- `bits::product` meets its contract. The loop's invariant: c is the sum of the first k terms; the terms that are left fall. Assumes nothing.
 use borrow.Author.Needs.{needs}
 use mathlib.Core.Path.{_≡_, refl, ap, _∙_}
 use Prim.Native.Nat.{_-_, _≤_}

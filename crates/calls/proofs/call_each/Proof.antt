@@ -1,4 +1,4 @@
--- `calls::call_each` meets its contract. Assumes nothing.
+-- `calls::call_each` meets its contract. The loop's invariant: the place lies in the input; what is left of it falls. Assumes nothing.
 use Prim.Native.Nat.{_≤_, _-_}
 use lib.ListN.{length}
 use borrow.Author.Needs.{needs}

@@ -48,7 +48,12 @@ returns-3 : tie.Need-returns-3
 returns-3 c = rw (c .before .before .before .rule .given .1) (heads-direct (now (c .before .before .before .before .before .args .triples)) _ _ _ (c .before .of-symbol .ensures) (c .included .ensures))
 
 returns-4 : tie.Need-returns-4
-returns-4 c = rw (c .before .before .before .before .before .before .before .before .rule2 .given .1) (heads-call _ _ _ _ (c .before .before .before .before .before .before .of-symbol2 .ensures) (c .before .before .before .before .before .included2 .ensures) _ (c .before .before .before .before .if1 .left) (c .before .before .before .of-symbol3 .ensures) (c .before .before .through .ensures) (c .before .of-symbol4 .ensures) (c .included3 .ensures))
+returns-4 c =
+    let over = c .before .before .before in
+    let entered = over .before .before .before in
+    rw (entered .before .before .rule2 .given .1)
+    (heads-call _ _ _ _ (entered .of-symbol2 .ensures) (over .before .before .included2 .ensures) _ (over .before .if1 .left) (over .of-symbol3 .ensures) (c .before .before .through .ensures)
+    (c .before .of-symbol4 .ensures) (c .included3 .ensures))
 
 pub heads-there-spec : {M : Type 1} → statement M
 heads-there-spec =

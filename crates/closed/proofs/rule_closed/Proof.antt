@@ -29,7 +29,11 @@ heads-there-requires : tie.Need-heads-there-requires
 heads-there-requires c κs = search needs
 
 returns-2 : tie.Need-returns-2
-returns-2 c = closed-by _ _ _ _ (c .before .before .before .before .before .before .before .symbol .ensures) (c .before .before .before .before .before .before .erasing .ensures) (c .before .before .before .before .before .of-symbol .ensures) (c .before .before .before .before .included .ensures) (c .before .before .before .if1 .left) (c .before .before .of-symbol2 .ensures) (c .before .through .ensures) (c .heads-there .ensures)
+returns-2 c =
+    let tops = c .before .before in
+    let erased = tops .before .before .before .before in
+    closed-by _ _ _ _ (erased .before .symbol .ensures) (erased .erasing .ensures) (tops .before .before .before .of-symbol .ensures) (tops .before .before .included .ensures) (tops .before .if1 .left)
+    (tops .of-symbol2 .ensures) (c .before .through .ensures) (c .heads-there .ensures)
 
 pub rule-closed-spec : {M : Type 1} → statement M
 rule-closed-spec =

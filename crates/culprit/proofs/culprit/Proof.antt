@@ -1,9 +1,8 @@
 -- `culprit::culprit` meets its contract. Assumes nothing.
 use Rattle.lent.specs.Lending.{productIn}
 use borrow.Author.Needs.{needs}
-use Rattle.product.specs.Facts.{head, triple}
 use Rattle.culprit.specs.Culprit.{someHead, someTriple}
-use Rattle.culprit.proofs.Guilty.{goal-first, goal-second}
+use Rattle.culprit.proofs.Asked.{goal-first, goal-second}
 use Rattle.culprit.proofs.culprit.Statement.{statement}
 use Rattle.culprit.proofs.culprit.Tie as tie
 
@@ -19,29 +18,19 @@ some-triple-requires c κs = search needs
 enum-known-f : tie.Need-enum-known-f
 enum-known-f c = search needs
 
-enum-known-f-2 : tie.Need-enum-known-f-2
-enum-known-f-2 c = search needs
-
 returns : tie.Need-returns
 returns c =
     let a = c .before .before .before .before .before .before .args in
-    let heads = someHead (productIn (a .m .now) .final) (a .size .symbols) (a .size .states) (a .heads .now) in
-    let triples = someTriple (productIn (a .m .now) .final) (a .size .symbols) (a .size .states) (a .triples .now) (a .s) (a .a) in
+    let heads = someHead (productIn (a .m .now) .final) (a .size .symbols) (a .size .states) (a .heads .now) (a .triples .now) in
+    let triples = someTriple (productIn (a .m .now) .final) (a .size .symbols) (a .size .states) (a .heads .now) (a .triples .now) (a .s) (a .a) in
     goal-second heads triples (c .before .before .before .some-head .ensures) (c .before .enum-told .given .1) (c .some-triple .ensures)
 
 returns-2 : tie.Need-returns-2
 returns-2 c =
     let a = c .before .before .before .before .before .before .args in
-    let heads = someHead (productIn (a .m .now) .final) (a .size .symbols) (a .size .states) (a .heads .now) in
-    let triples = someTriple (productIn (a .m .now) .final) (a .size .symbols) (a .size .states) (a .triples .now) (a .s) (a .a) in
-    goal-first heads triples (head (c .before .f .given .0 .0) (c .before .f .given .0 .1 .0)) (c .before .before .before .some-head .ensures) (c .before .f .given .1)
-
-returns-3 : tie.Need-returns-3
-returns-3 c =
-    let a = c .before .before .before .before .before .before .args in
-    let heads = someHead (productIn (a .m .now) .final) (a .size .symbols) (a .size .states) (a .heads .now) in
-    let triples = someTriple (productIn (a .m .now) .final) (a .size .symbols) (a .size .states) (a .triples .now) (a .s) (a .a) in
-    goal-first heads triples (triple (c .before .f2 .given .0 .0) (c .before .f2 .given .0 .1 .0) (c .before .f2 .given .0 .1 .1 .0)) (c .before .before .before .some-head .ensures) (c .before .f2 .given .1)
+    let heads = someHead (productIn (a .m .now) .final) (a .size .symbols) (a .size .states) (a .heads .now) (a .triples .now) in
+    let triples = someTriple (productIn (a .m .now) .final) (a .size .symbols) (a .size .states) (a .heads .now) (a .triples .now) (a .s) (a .a) in
+    goal-first heads triples (c .before .before .before .some-head .ensures) (c .before .f .given .1)
 
 pub culprit-spec : {M : Type 1} → statement M
 culprit-spec =
@@ -51,7 +40,5 @@ culprit-spec =
     enum-told
     some-triple-requires
     enum-known-f
-    enum-known-f-2
     returns
-    returns-2
-    returns-3)
+    returns-2)

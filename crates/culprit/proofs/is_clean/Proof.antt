@@ -1,9 +1,8 @@
 -- `culprit::is_clean` meets its contract. Assumes nothing.
 use Rattle.lent.specs.Lending.{productIn}
 use borrow.Author.Needs.{needs}
-use Rattle.product.specs.Facts.{head, triple}
 use Rattle.culprit.specs.Culprit.{culpritIn}
-use Rattle.culprit.proofs.Guilty.{goal-nothing, goal-something}
+use Rattle.culprit.proofs.Asked.{goal-nothing, goal-something}
 use Rattle.culprit.proofs.is_clean.Statement.{statement}
 use Rattle.culprit.proofs.is_clean.Tie as tie
 
@@ -16,9 +15,6 @@ enum-told c = search needs
 enum-told-2 : tie.Need-enum-told-2
 enum-told-2 c = search needs
 
-enum-told-3 : tie.Need-enum-told-3
-enum-told-3 c = search needs
-
 returns : tie.Need-returns
 returns c =
     let a = c .before .before .before .before .before .args in
@@ -27,14 +23,9 @@ returns c =
 returns-2 : tie.Need-returns-2
 returns-2 c =
     let a = c .before .before .before .before .before .args in
-    goal-something (culpritIn (productIn (a .m .now) .final) (a .size .symbols) (a .size .states) (a .heads .now) (a .triples .now) (a .s) (a .a)) (head (c .enum-told2 .given .0 .0) (c .enum-told2 .given .0 .1 .0)) (c .before .before .culprit .ensures) (c .enum-told2 .given .1)
-
-returns-3 : tie.Need-returns-3
-returns-3 c =
-    let a = c .before .before .before .before .before .args in
-    goal-something (culpritIn (productIn (a .m .now) .final) (a .size .symbols) (a .size .states) (a .heads .now) (a .triples .now) (a .s) (a .a)) (triple (c .enum-told3 .given .0 .0) (c .enum-told3 .given .0 .1 .0) (c .enum-told3 .given .0 .1 .1 .0)) (c .before .before .culprit .ensures) (c .enum-told3 .given .1)
+    goal-something (culpritIn (productIn (a .m .now) .final) (a .size .symbols) (a .size .states) (a .heads .now) (a .triples .now) (a .s) (a .a)) (c .before .before .culprit .ensures) (c .enum-told2 .given .1)
 
 pub is-clean-spec : {M : Type 1} → statement M
 is-clean-spec =
     tie.close
-    (tie.spec culprit-requires enum-told enum-told-2 enum-told-3 returns returns-2 returns-3)
+    (tie.spec culprit-requires enum-told enum-told-2 returns returns-2)

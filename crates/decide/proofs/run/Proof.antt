@@ -5,7 +5,7 @@ use borrow.Author.Needs.{needs}
 use Rattle.model.proofs.Valid.{valid-sizes}
 use Rattle.lent.specs.Lending.{ofLent, modelIn}
 use Rattle.decide.proofs.Emptied.{empty-first}
-use Rattle.decide.proofs.Framed.{same-rows}
+use Rattle.steps.proofs.Rows.{lies}
 use Rattle.decide.proofs.Tested.{steps-read}
 use Rattle.decide.proofs.Starting.{symbol-in, driving, heads-same, triples-same, ran}
 use Rattle.decide.proofs.run.Statement.{statement}
@@ -26,7 +26,7 @@ first-rules-requires c κs =
     let goal = c .before .before .before .before .before .before .before .before .before in
     let s = goal .before .before .before in
     let v = s .pre .1 .valid-model in
-    (valid-sizes _ v .rules, (symbol-in _ v (same-rows (now (s .args .m))) (goal .goal-of .ensures), empty-first 384))
+    (valid-sizes _ v .rules, (symbol-in _ v (lies _ (now (s .args .m))) (goal .goal-of .ensures), empty-first 384))
 
 run-requires : tie.Need-run-requires
 unfolding modelIn
@@ -39,7 +39,7 @@ run-requires c κs =
     let cells = now (s .args .m) in
     let m = ofLent (s .args .shape) cells in
     let tg-is = made .class-steps .ensures ∙ sym (steps-read cells (s .pre .0)) in
-    driving m (s .pre .1 .valid-model) (same-rows cells) (s .pre .1) (goal .goal-of .ensures) (begun .start .ensures) (built .first-rules .ensures) tg-is
+    driving m (s .pre .1 .valid-model) (lies _ cells) (s .pre .1) (goal .goal-of .ensures) (begun .start .ensures) (built .first-rules .ensures) tg-is
 
 same-length : tie.Need-same-length
 unfolding modelIn
@@ -53,7 +53,7 @@ same-length c =
     let cells = now (s .args .m) in
     let m = ofLent (s .args .shape) cells in
     let tg-is = made .class-steps .ensures ∙ sym (steps-read cells (s .pre .0)) in
-    heads-same m (s .pre .1 .valid-model) (same-rows cells) (s .pre .1) (goal .goal-of .ensures) (begun .start .ensures) (built .first-rules .ensures) tg-is (ran .run .ensures)
+    heads-same m (s .pre .1 .valid-model) (lies _ cells) (s .pre .1) (goal .goal-of .ensures) (begun .start .ensures) (built .first-rules .ensures) tg-is (ran .run .ensures)
 
 same-length-2 : tie.Need-same-length-2
 unfolding modelIn
@@ -67,7 +67,7 @@ same-length-2 c =
     let cells = now (s .args .m) in
     let m = ofLent (s .args .shape) cells in
     let tg-is = made .class-steps .ensures ∙ sym (steps-read cells (s .pre .0)) in
-    triples-same m (s .pre .1 .valid-model) (same-rows cells) (s .pre .1) (goal .goal-of .ensures) (begun .start .ensures) (built .first-rules .ensures) tg-is (ran .run .ensures)
+    triples-same m (s .pre .1 .valid-model) (lies _ cells) (s .pre .1) (goal .goal-of .ensures) (begun .start .ensures) (built .first-rules .ensures) tg-is (ran .run .ensures)
 
 returns : tie.Need-returns
 unfolding modelIn
@@ -81,7 +81,7 @@ returns c =
     let cells = now (s .args .m) in
     let m = ofLent (s .args .shape) cells in
     let tg-is = made .class-steps .ensures ∙ sym (steps-read cells (s .pre .0)) in
-    ran m (s .pre .1 .valid-model) (same-rows cells) (s .pre .1) (goal .goal-of .ensures) (begun .start .ensures) (built .first-rules .ensures) tg-is (went .run .ensures)
+    ran m (s .pre .1 .valid-model) (lies _ cells) (s .pre .1) (goal .goal-of .ensures) (begun .start .ensures) (built .first-rules .ensures) tg-is (went .run .ensures)
 
 pub run-spec : {M : Type 1} → statement M
 run-spec =

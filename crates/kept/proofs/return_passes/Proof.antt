@@ -4,17 +4,17 @@ use Rattle.model.proofs.Counted.{passed, failed}
 use Rattle.kept.proofs.return_passes.Statement.{statement}
 use Rattle.kept.proofs.return_passes.Tie as tie
 
-has-triple-requires : tie.Need-has-triple-requires
-has-triple-requires c κs = search needs
+has-requires : tie.Need-has-requires
+has-requires c κs = search needs
 
 returns : tie.Need-returns
-returns c = rw (failed (c .before .has-triple .ensures) (c .if1 .taken))
+returns c = rw (failed (c .before .has .ensures) (c .if1 .taken))
 
 both-pass-requires : tie.Need-both-pass-requires
 both-pass-requires c κs = search needs
 
 returns-2 : tie.Need-returns-2
-returns-2 c = rw (passed (c .before .before .has-triple .ensures) (c .before .if1 .left)) (c .both-pass .ensures)
+returns-2 c = rw (passed (c .before .before .has .ensures) (c .before .if1 .left)) (c .both-pass .ensures)
 
 pub return-passes-spec : {M : Type 1} → statement M
-return-passes-spec = tie.close (tie.spec has-triple-requires returns both-pass-requires returns-2)
+return-passes-spec = tie.close (tie.spec has-requires returns both-pass-requires returns-2)

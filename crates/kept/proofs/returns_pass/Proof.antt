@@ -1,4 +1,4 @@
--- `kept::returns_pass` meets its contract. The loop's invariant: the returns in the states before e are kept. Assumes nothing.
+-- `kept::returns_pass` meets its contract. The loop's invariant: the returns in the states before e are kept; the states that are left fall. Assumes nothing.
 use mathlib.Core.Bool.{true}
 use mathlib.Core.Path.{_≡_, refl}
 use Prim.Native.Nat.{_-_, _≤_}
@@ -6,16 +6,15 @@ use denote.Ref.{now}
 use borrow.Author.Needs.{needs}
 use Rattle.product.specs.Lists.{upTo, all}
 use Rattle.model.proofs.Counted.{more, stop, done}
-use Rattle.kept.specs.Kept.{inTable}
-use Rattle.kept.specs.Kept.{returnPasses}
+use Rattle.kept.specs.Kept.{inTable, returnPasses}
 use Rattle.kept.proofs.returns_pass.Statement.{statement}
 use Rattle.kept.proofs.returns_pass.Tie as tie
 
 abbrev Inv-loop : tie.InvT-loop
-Inv-loop heads triples size q g q2 g1 g2 e₀ e = (e ≤ size .states) × (all (returnPasses (size .states) (inTable size heads triples) q g q2 g1 g2) (upTo e) ≡ true)
+Inv-loop heads triples size leg g2 e₀ e = (e ≤ size .states) × (all (returnPasses (size .states) (inTable size heads triples) (leg .q) (leg .g) (leg .q2) (leg .g1) g2) (upTo e) ≡ true)
 
 abbrev μ-loop : tie.MeasureT-loop
-μ-loop heads triples size q g q2 g1 g2 e₀ e = size .states - e
+μ-loop heads triples size leg g2 e₀ e = size .states - e
 
 loop-holds : tie.Need-loop-holds Inv-loop μ-loop
 loop-holds c = (search needs, refl)
@@ -28,8 +27,11 @@ return-passes-requires c κs = search needs
 
 returns : tie.Need-returns Inv-loop μ-loop
 returns c =
-    let a = c .before .before .before .before .before .before .before .args in
-    stop (returnPasses (a .size .states) (inTable (a .size) (now (a .heads)) (now (a .triples))) (a .q) (a .g) (a .q2) (a .g1) (a .g2)) (c .before .before .before .before .loop .e) (c .before .return-passes .ensures) (a .size .states) (search needs) (c .if2 .taken)
+    let turn = c .before .before .before .before in
+    let a = turn .before .before .before .args in
+    let t = inTable (a .size) (now (a .heads)) (now (a .triples)) in
+    let p = returnPasses (a .size .states) t (a .leg .q) (a .leg .g) (a .leg .q2) (a .leg .g1) (a .g2) in
+    stop p (turn .loop .e) (c .before .return-passes .ensures) (a .size .states) (search needs) (c .if2 .taken)
 
 add-e : tie.Need-add-e Inv-loop μ-loop
 add-e c = search needs
@@ -39,13 +41,19 @@ loop-less c = search needs
 
 loop-again : tie.Need-loop-again Inv-loop μ-loop
 loop-again c =
-    let a = c .before .before .before .before .before .before .before .args in
-    (search needs, more (returnPasses (a .size .states) (inTable (a .size) (now (a .heads)) (now (a .triples))) (a .q) (a .g) (a .q2) (a .g1) (a .g2)) (c .before .before .before .before .loop .e) (c .before .return-passes .ensures) (c .before .before .before .before .loop .inv .1) (c .if2 .left))
+    let turn = c .before .before .before .before in
+    let a = turn .before .before .before .args in
+    let t = inTable (a .size) (now (a .heads)) (now (a .triples)) in
+    let p = returnPasses (a .size .states) t (a .leg .q) (a .leg .g) (a .leg .q2) (a .leg .g1) (a .g2) in
+    (search needs, more p (turn .loop .e) (c .before .return-passes .ensures) (turn .loop .inv .1) (c .if2 .left))
 
 returns-2 : tie.Need-returns-2 Inv-loop μ-loop
 returns-2 c =
-    let a = c .before .before .before .before .before .args in
-    done (returnPasses (a .size .states) (inTable (a .size) (now (a .heads)) (now (a .triples))) (a .q) (a .g) (a .q2) (a .g1) (a .g2)) (c .before .before .loop .inv .0) (search needs) (c .before .before .loop .inv .1)
+    let turn = c .before .before in
+    let a = turn .before .before .before .args in
+    let t = inTable (a .size) (now (a .heads)) (now (a .triples)) in
+    let p = returnPasses (a .size .states) t (a .leg .q) (a .leg .g) (a .leg .q2) (a .leg .g1) (a .g2) in
+    done p (turn .loop .inv .0) (search needs) (turn .loop .inv .1)
 
 pub returns-pass-spec : {M : Type 1} → statement M
 returns-pass-spec =

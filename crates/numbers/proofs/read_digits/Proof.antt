@@ -1,4 +1,4 @@
--- `numbers::read_digits` meets its contract. Assumes nothing.
+-- `numbers::read_digits` meets its contract. The loop's invariant: what was read, with what is left, spells the number that was asked for; what is left falls. Assumes nothing.
 use Prim.Native.Nat.{_+_, _≤_, _<_, _-_, _^_}
 use mathlib.Core.Path.{_≡_, sym, _∙_}
 use lib.ListN.{length, drop, List·getD-eq-default}
@@ -55,7 +55,15 @@ loop-less : tie.Need-loop-less Inv-loop μ-loop
 loop-less c = omega arith
 
 loop-again : tie.Need-loop-again Inv-loop μ-loop
-loop-again c = let l = c .before .before .before .before .before .loop in let s = c .before .before .before .before .before .before .args .s .now in (omega arith, omega arith, grows (l .count) (l .value) _ (l .inv .2) (omega arith), sym (digit-reads (l .value) (l .count) s (omega arith) (omega arith) (omega arith)) ∙ l .inv .3, let x = l .inv .4 in omega (arith, digit-long (l .value) (l .count) s (omega arith) (omega arith) (omega arith)))
+loop-again c =
+    let l = c .before .before .before .before .before .loop in
+    let s = c .before .before .before .before .before .before .args .s .now in (
+      omega arith,
+      omega arith,
+      grows (l .count) (l .value) _ (l .inv .2) (omega arith),
+      sym (digit-reads (l .value) (l .count) s (omega arith) (omega arith) (omega arith)) ∙ l .inv .3,
+      let x = l .inv .4 in omega (arith, digit-long (l .value) (l .count) s (omega arith) (omega arith) (omega arith)),
+    )
 
 returns-4 : tie.Need-returns-4 Inv-loop μ-loop
 returns-4 c = let l = c .before .loop in record { within = l .inv .0; reads = l .inv .3; long = l .inv .4; next = sym (List·getD-eq-default (c .before .before .args .s .now) 10 (omega arith)); stops = λ a b d e. omega arith }

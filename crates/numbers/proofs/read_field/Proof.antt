@@ -24,7 +24,10 @@ no-field-requires-2 : tie.Need-no-field-requires-2
 no-field-requires-2 c κs = tt
 
 returns-3 : tie.Need-returns-3
-returns-3 c = not-ended (c .before .before .before .before .before .before .before .args .s .now) (c .before .before .before .before .before .read-digits .ensures) (sym (c .before .before .before .before .well-written .ensures) ∙ not-false _ (c .before .before .before .if1 .left)) (c .before .before .if2 .left) (c .before .if3 .taken) (c .no-field2 .ensures)
+returns-3 c =
+    let read = c .before .before .before .before .before in
+    let written = sym (c .before .before .before .before .well-written .ensures) ∙ not-false _ (c .before .before .before .if1 .left) in
+    not-ended (read .before .before .args .s .now) (read .read-digits .ensures) written (c .before .before .if2 .left) (c .before .if3 .taken) (c .no-field2 .ensures)
 
 returns-4 : tie.Need-returns-4
 returns-4 c = ended (c .before .before .before .before .before .before .args .s .now) (c .before .before .before .before .read-digits .ensures) (sym (c .before .before .before .well-written .ensures) ∙ not-false _ (c .before .before .if1 .left)) 9 (c .if3 .left) refl

@@ -1,4 +1,4 @@
--- `numbers::read_fields` meets its contract. Assumes nothing.
+-- `numbers::read_fields` meets its contract. The loop's invariant is `Turn`; what is left of the text falls. Assumes nothing.
 use lib.ListN.{length}
 use Rattle.text.proofs.Split.{after-shorter}
 use Rattle.numbers.proofs.Field.{end-within}
@@ -51,13 +51,21 @@ sub-t18 : tie.Need-sub-t18 Inv-loop μ-loop
 sub-t18 c = let i = c .before .before .before .before .before .before .before .loop .inv in omega (arith, i .fits)
 
 add-t19 : tie.Need-add-t19 Inv-loop μ-loop
-add-t19 c = let i = c .before .before .before .before .before .before .before .loop .inv in omega (arith, i .fits, end-within (c .before .before .before .before .before .before .before .loop .rest .now) (c .before .before .before .before .before .before .read-field .ensures) (c .before .before .before .before .number .given .1))
+add-t19 c =
+    let told = c .before .before .before .before in
+    let read = told .before .before in
+    let i = read .before .loop .inv in
+    omega (arith, i .fits, end-within (read .before .loop .rest .now) (read .read-field .ensures) (told .number .given .1))
 
 returns-3 : tie.Need-returns-3 Inv-loop μ-loop
 returns-3 c = last-turn (c .before .before .before .before .before .before .before .loop .inv) (c .before .before .before .before .before .before .read-field .ensures) (c .before .before .before .before .number .given .1) (c .before .before .if1 .left) (c .if2 .taken)
 
 add-b : tie.Need-add-b Inv-loop μ-loop
-add-b c = let i = c .before .before .before .before .before .before .before .loop .inv in omega (arith, i .fits, end-within (c .before .before .before .before .before .before .before .loop .rest .now) (c .before .before .before .before .before .before .read-field .ensures) (c .before .before .before .before .number .given .1))
+add-b c =
+    let told = c .before .before .before .before in
+    let read = told .before .before in
+    let i = read .before .loop .inv in
+    omega (arith, i .fits, end-within (read .before .loop .rest .now) (read .read-field .ensures) (told .number .given .1))
 
 sub-rest : tie.Need-sub-rest Inv-loop μ-loop
 sub-rest c = let h = inside (c .before .before .before .before .before .before .before .loop .inv) (c .before .before .before .before .before .before .read-field .ensures) (c .before .before .before .before .number .given .1) (c .before .before .if1 .left) (c .if2 .left) in search needs
@@ -69,10 +77,41 @@ part-rest-end : tie.Need-part-rest-end Inv-loop μ-loop
 part-rest-end c = let h = inside (c .before .before .before .before .before .before .before .loop .inv) (c .before .before .before .before .before .before .read-field .ensures) (c .before .before .before .before .number .given .1) (c .before .before .if1 .left) (c .if2 .left) in search needs
 
 loop-less : tie.Need-loop-less Inv-loop μ-loop
-loop-less c = after-shorter _ (c .before .before .before .before .before .before .before .before .loop .rest .now) (inside (c .before .before .before .before .before .before .before .before .loop .inv) (c .before .before .before .before .before .before .before .read-field .ensures) (c .before .before .before .before .before .number .given .1) (c .before .before .before .if1 .left) (c .before .if2 .left))
+loop-less c =
+    let told = c .before .before .before .before .before in
+    let read = told .before .before in
+    let l = read .before .loop in
+    after-shorter _ (l .rest .now) (inside (l .inv) (read .read-field .ensures) (told .number .given .1) (c .before .before .before .if1 .left) (c .before .if2 .left))
 
 loop-again : tie.Need-loop-again Inv-loop μ-loop
-loop-again c = next-turn (c .before .before .before .before .before .before .before .before .loop .inv) (c .before .before .before .before .before .before .before .read-field .ensures) (c .before .before .before .before .before .number .given .1) (c .before .before .before .if1 .left) (c .before .if2 .left)
+loop-again c =
+    let told = c .before .before .before .before .before in
+    let read = told .before .before in
+    next-turn (read .before .loop .inv) (read .read-field .ensures) (told .number .given .1) (c .before .before .before .if1 .left) (c .before .if2 .left)
 
 pub read-fields-spec : {M : Type 1} → statement M
-read-fields-spec = tie.close (tie.spec Inv-loop μ-loop loop-holds read-field-requires enum-known-number enum-told wrong-fields-requires returns wrong-fields-requires-2 returns-2 mul-at array-write-at add-count sub-t18 add-t19 returns-3 add-b sub-rest part-rest-start part-rest-end loop-less loop-again)
+read-fields-spec =
+    tie.close
+    (tie.spec
+    Inv-loop
+    μ-loop
+    loop-holds
+    read-field-requires
+    enum-known-number
+    enum-told
+    wrong-fields-requires
+    returns
+    wrong-fields-requires-2
+    returns-2
+    mul-at
+    array-write-at
+    add-count
+    sub-t18
+    add-t19
+    returns-3
+    add-b
+    sub-rest
+    part-rest-start
+    part-rest-end
+    loop-less
+    loop-again)

@@ -1,4 +1,4 @@
--- `print::put_all` meets its contract. Assumes nothing.
+-- `print::put_all` meets its contract. The loop's invariant: the first i bytes are put; those that are left fall. Assumes nothing.
 use Prim.Native.Nat.{_-_, _≤_}
 use lib.ListN.{length, take}
 use lib.Seq.{take-all}
@@ -35,7 +35,10 @@ loop-less : tie.Need-loop-less Inv-loop μ-loop
 loop-less c = search needs
 
 loop-again : tie.Need-loop-again Inv-loop μ-loop
-loop-again c = (search needs, as-put (take-more (c .before .before .before .before .before .before .before .before .before .before .args .s .now) (c .before .before .before .before .before .before .loop .i) (omega arith)) (then-put (c .before .before .before .before .before .before .loop .inv .1) (c .before .before .put .ensures)))
+loop-again c =
+    let turn = c .before .before .before .before .before .before in
+    let a = turn .before .before .before .before .args in
+    (search needs, as-put (take-more (a .s .now) (turn .loop .i) (omega arith)) (then-put (turn .loop .inv .1) (c .before .before .put .ensures)))
 
 same-length : tie.Need-same-length Inv-loop μ-loop
 same-length c = put-length (c .before .loop .inv .1)

@@ -26,7 +26,11 @@ same-length : tie.Need-same-length
 same-length c = put-length (c .before .before .put-all .ensures) ∙ put-length (c .before .before .before .before .before .before .before .before .before .put .ensures)
 
 returns : tie.Need-returns
-returns c = then-put (c .before .before .before .before .before .before .before .before .before .put .ensures) (as-put (digits-part-of (c .before .before .before .before .before .before .before .before .before .before .before .before .args .n) (c .before .before .before .before .before .before .write-number .ensures)) (c .before .before .put-all .ensures))
+returns c =
+    let digits = c .before .before .before .before .before .before in
+    let tab = digits .before .before .before in
+    let a = tab .before .before .before .args in
+    then-put (tab .put .ensures) (as-put (digits-part-of (a .n) (digits .write-number .ensures)) (c .before .before .put-all .ensures))
 
 pub put-field-spec : {M : Type 1} → statement M
 put-field-spec =

@@ -23,7 +23,13 @@ same-length : tie.Need-same-length
 same-length c = search needs
 
 returns : tie.Need-returns
-returns c = named-put _ (c .before .before .before .before .before .before .before .before .before .before .before .before .before .before .before .before .before .before .put-all .ensures) (c .before .before .before .before .before .before .before .before .before .before .before .before .before .before .put-fields .ensures) (c .before .before .before .before .before .before .before .before .before .before .put .ensures) (c .before .before .before .before .before .before .put-all2 .ensures) (c .before .before .put2 .ensures)
+returns c =
+    let last = c .before .before in
+    let name = last .before .before .before .before in
+    let tab = name .before .before .before .before in
+    let fields = tab .before .before .before .before in
+    let word = fields .before .before .before .before in
+    named-put _ (word .put-all .ensures) (fields .put-fields .ensures) (tab .put .ensures) (name .put-all2 .ensures) (last .put2 .ensures)
 
 pub put-named-spec : {M : Type 1} → statement M
 put-named-spec =

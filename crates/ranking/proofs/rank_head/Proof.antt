@@ -1,106 +1,49 @@
 -- `ranking::rank_head` meets its contract. Assumes nothing.
-use mathlib.Core.Path.{sym, _∙_}
-use Rattle.model.proofs.Counted.{passed, failed}
-use Rattle.ranking.proofs.Faults.{miscounted, well-counted, fault-early, fault-twice, fault-outside, fault-large, fault-none, outside-absent, not-ranked, is-ranked}
-use borrow.Author.Needs.{needs}
 use native.Mathlib.Omega.{arith}
+use borrow.Author.Needs.{needs}
+use Rattle.ranking.proofs.Faults.{miscounted, well-counted, not-ranked}
 use Rattle.ranking.proofs.rank_head.Statement.{statement}
 use Rattle.ranking.proofs.rank_head.Tie as tie
 
 returns : tie.Need-returns
 returns c = not-ranked (miscounted _ _ _ (c .if1 .taken)) (λ e. omega arith)
 
-returns-2 : tie.Need-returns-2
-returns-2 c = not-ranked (well-counted _ _ _ (c .before .if1 .left) (fault-early _ _ _ _ (c .if2 .taken))) (λ e. omega arith)
+array-read-t10 : tie.Need-array-read-t10
+array-read-t10 c = search needs
 
-array-read-q : tie.Need-array-read-q
-array-read-q c = search needs
+cast-t11 : tie.Need-cast-t11
+cast-t11 c = search needs
 
-cast-q : tie.Need-cast-q
-cast-q c = search needs
+array-read-t14 : tie.Need-array-read-t14
+array-read-t14 c = search needs
 
-array-read-g : tie.Need-array-read-g
-array-read-g c = search needs
+cast-t15 : tie.Need-cast-t15
+cast-t15 c = search needs
 
-cast-g : tie.Need-cast-g
-cast-g c = search needs
+array-read-rank-fact : tie.Need-array-read-rank-fact
+array-read-rank-fact c = search needs
 
-array-read-rank : tie.Need-array-read-rank
-array-read-rank c = search needs
-
-head-inside-requires : tie.Need-head-inside-requires
-head-inside-requires c κs = tt
-
-returns-3 : tie.Need-returns-3
-returns-3 c =
-    let early = c .before .before .before in
-    let out = failed (c .before .head-inside .ensures) (c .if3 .taken) in
-    not-ranked (well-counted _ _ _ (early .before .if1 .left) (fault-outside _ _ _ _ (early .if2 .left) (outside-absent _ _ out) out)) (λ e. omega arith)
-
-head-at-requires : tie.Need-head-at-requires
-head-at-requires c κs = tt
+rank-fact-requires : tie.Need-rank-fact-requires
+rank-fact-requires c κs = search needs
 
 same-length : tie.Need-same-length
 same-length c = search needs
 
-returns-4 : tie.Need-returns-4
-returns-4 c =
-    let early = c .before .before .before .before .before .before in
-    not-ranked (well-counted _ _ _ (early .before .if1 .left) (fault-twice _ _ _ _ (early .if2 .left) (λ e. c .if4 .taken (c .before .head-at .ensures ∙ e)))) (λ e. omega arith)
-
-same-length-2 : tie.Need-same-length-2
-same-length-2 c = search needs
-
-returns-5 : tie.Need-returns-5
-returns-5 c =
-    let held = c .before .before in
-    let inside = held .before .before in
-    let early = inside .before .before .before in
-    not-ranked
-    (well-counted _ _ _ (early .before .if1 .left)
-    (fault-large _ _ _ _ (early .if2 .left) (sym (held .head-at .ensures) ∙ c .before .if4 .left) (passed (inside .before .head-inside .ensures) (inside .if3 .left)) (c .if5 .taken)))
-    (λ e. omega arith)
-
-cast-put-head : tie.Need-cast-put-head
-cast-put-head c = search needs
-
-put-head-requires : tie.Need-put-head-requires
-put-head-requires c κs = tt
-
-same-length-3 : tie.Need-same-length-3
-same-length-3 c = search needs
-
-returns-6 : tie.Need-returns-6
-returns-6 c =
+returns-2 : tie.Need-returns-2
+returns-2 c =
     let put = c .before .before in
-    let small = put .before .before in
-    let held = small .before .before in
-    let inside = held .before .before in
-    let early = inside .before .before .before in
-    is-ranked
-    (well-counted _ _ _ (early .before .if1 .left)
-    (fault-none _ _ _ _ (early .if2 .left) (sym (held .head-at .ensures) ∙ small .before .if4 .left) (passed (inside .before .head-inside .ensures) (inside .if3 .left)) (small .if5 .left)))
-    (put .put-head .ensures)
+    well-counted _ _ _ (put .before .before .before .if1 .left) (put .rank-fact .ensures)
 
 pub rank-head-spec : {M : Type 1} → statement M
 rank-head-spec =
     tie.close
     (tie.spec
     returns
-    returns-2
-    array-read-q
-    cast-q
-    array-read-g
-    cast-g
-    array-read-rank
-    head-inside-requires
-    returns-3
-    head-at-requires
+    array-read-t10
+    cast-t11
+    array-read-t14
+    cast-t15
+    array-read-rank-fact
+    rank-fact-requires
     same-length
-    returns-4
-    same-length-2
-    returns-5
-    cast-put-head
-    put-head-requires
-    same-length-3
-    returns-6)
+    returns-2)

@@ -2,7 +2,7 @@
 use mathlib.Core.Path.{refl}
 use Rattle.lent.specs.Lending.{modelIn}
 use Rattle.text.proofs.Puts.{put-length}
-use Rattle.rereport.proofs.Cases.{checked-put, rule-fits, move-fits, never-invalid, never-short}
+use Rattle.rereport.proofs.Cases.{checked-put, rule-fits, move-fits, never}
 use native.Mathlib.Omega.{arith}
 use borrow.Author.Needs.{needs}
 use Rattle.rereport.proofs.put_checked.Statement.{statement}
@@ -36,10 +36,24 @@ enum-known-c : tie.Need-enum-known-c
 enum-known-c c = search needs
 
 cast-put-open : tie.Need-cast-put-open
-cast-put-open c = let a = c .before .before .before .before .before .before .before .before .args in omega (arith, rule-fits (modelIn (a .m .now)) (a .heads .now) (a .triples .now) (c .before .before .before .before .before .before .before .before .pre) (c .before .before .before .before .check-table .ensures) (c .before .before .c .given .1))
+cast-put-open c =
+    let start = c .before .before .before .before .before .before .before .before in
+    let a = start .args in
+    omega (
+      arith,
+      rule-fits (modelIn (a .m .now)) (a .heads .now) (a .triples .now) (start .pre)
+          (c .before .before .before .before .check-table .ensures) (c .before .before .c .given .1),
+    )
 
 cast-put-open-2 : tie.Need-cast-put-open-2
-cast-put-open-2 c = let a = c .before .before .before .before .before .before .before .before .args in omega (arith, move-fits (modelIn (a .m .now)) (a .heads .now) (a .triples .now) (c .before .before .before .before .before .before .before .before .pre) (c .before .before .before .before .check-table .ensures) (c .before .before .c .given .1))
+cast-put-open-2 c =
+    let start = c .before .before .before .before .before .before .before .before in
+    let a = start .args in
+    omega (
+      arith,
+      move-fits (modelIn (a .m .now)) (a .heads .now) (a .triples .now) (start .pre)
+          (c .before .before .before .before .check-table .ensures) (c .before .before .c .given .1),
+    )
 
 put-open-requires-3 : tie.Need-put-open-requires-3
 put-open-requires-3 c κs = search needs
@@ -54,31 +68,55 @@ same-length : tie.Need-same-length
 same-length c = put-length (c .before .before .put-all .ensures)
 
 returns : tie.Need-returns
-returns c = let a = c .before .before .before .before .before .before .before .before .before .before .before .args in checked-put (modelIn (a .m .now)) (a .heads .now) (a .triples .now) (c .before .before .before .before .before .before .before .before .before .before .before .pre) (c .before .before .before .before .before .before .before .check-table .ensures) (c .before .before .before .before .before .enum-told .given .1) (c .before .before .put-all .ensures)
+returns c =
+    let start = c .before .before .before .before .before .before .before .before .before .before .before in
+    let a = start .args in
+    checked-put (modelIn (a .m .now)) (a .heads .now) (a .triples .now) (start .pre)
+    (c .before .before .before .before .before .before .before .check-table .ensures) (c .before .before .before .before .before .enum-told .given .1) (c .before .before .put-all .ensures)
 
 same-length-2 : tie.Need-same-length-2
 same-length-2 c = put-length (c .before .before .put-open .ensures)
 
 returns-2 : tie.Need-returns-2
-returns-2 c = let a = c .before .before .before .before .before .before .before .before .before .before .args in checked-put (modelIn (a .m .now)) (a .heads .now) (a .triples .now) (c .before .before .before .before .before .before .before .before .before .before .pre) (c .before .before .before .before .before .before .check-table .ensures) (c .before .before .before .before .enum-told2 .given .1) (c .before .before .put-open .ensures)
+returns-2 c =
+    let start = c .before .before .before .before .before .before .before .before .before .before in
+    let a = start .args in
+    checked-put (modelIn (a .m .now)) (a .heads .now) (a .triples .now) (start .pre)
+    (c .before .before .before .before .before .before .check-table .ensures) (c .before .before .before .before .enum-told2 .given .1) (c .before .before .put-open .ensures)
 
 same-length-3 : tie.Need-same-length-3
 same-length-3 c = put-length (c .before .before .put-open2 .ensures)
 
 returns-3 : tie.Need-returns-3
-returns-3 c = let a = c .before .before .before .before .before .before .before .before .before .before .args in checked-put (modelIn (a .m .now)) (a .heads .now) (a .triples .now) (c .before .before .before .before .before .before .before .before .before .before .pre) (c .before .before .before .before .before .before .check-table .ensures) (c .before .before .before .before .enum-told3 .given .1) (c .before .before .put-open2 .ensures)
+returns-3 c =
+    let start = c .before .before .before .before .before .before .before .before .before .before in
+    let a = start .args in
+    checked-put (modelIn (a .m .now)) (a .heads .now) (a .triples .now) (start .pre)
+    (c .before .before .before .before .before .before .check-table .ensures) (c .before .before .before .before .enum-told3 .given .1) (c .before .before .put-open2 .ensures)
 
 same-length-4 : tie.Need-same-length-4
 same-length-4 c = put-length (c .before .before .put-open3 .ensures)
 
 returns-4 : tie.Need-returns-4
-returns-4 c = let a = c .before .before .before .before .before .before .before .before .before .before .before .args in checked-put (modelIn (a .m .now)) (a .heads .now) (a .triples .now) (c .before .before .before .before .before .before .before .before .before .before .before .pre) (c .before .before .before .before .before .before .before .check-table .ensures) (c .before .before .before .before .before .c .given .1) (c .before .before .put-open3 .ensures)
+returns-4 c =
+    let start = c .before .before .before .before .before .before .before .before .before .before .before in
+    let a = start .args in
+    checked-put (modelIn (a .m .now)) (a .heads .now) (a .triples .now) (start .pre)
+    (c .before .before .before .before .before .before .before .check-table .ensures) (c .before .before .before .before .before .c .given .1) (c .before .before .put-open3 .ensures)
 
 returns-5 : tie.Need-returns-5
-returns-5 c = let a = c .before .before .before .before .before .before .args in absurd (never-invalid (modelIn (a .m .now)) (a .heads .now) (a .triples .now) (c .before .before .before .before .before .before .pre) (c .before .before .check-table .ensures) (c .enum-told4 .given .1) refl)
+returns-5 c =
+    let start = c .before .before .before .before .before .before in
+    let a = start .args in
+    absurd (never (modelIn (a .m .now)) (a .heads .now) (a .triples .now) (start .pre)
+    (c .before .before .check-table .ensures) (c .enum-told4 .given .1) 6 _ (omega arith) refl)
 
 returns-6 : tie.Need-returns-6
-returns-6 c = let a = c .before .before .before .before .before .before .args in absurd (never-short (modelIn (a .m .now)) (a .heads .now) (a .triples .now) (c .before .before .before .before .before .before .pre) (c .before .before .check-table .ensures) (c .enum-told5 .given .1) refl)
+returns-6 c =
+    let start = c .before .before .before .before .before .before in
+    let a = start .args in
+    absurd (never (modelIn (a .m .now)) (a .heads .now) (a .triples .now) (start .pre)
+    (c .before .before .check-table .ensures) (c .enum-told5 .given .1) 7 _ (omega arith) refl)
 
 pub put-checked-spec : {M : Type 1} → statement M
 put-checked-spec =

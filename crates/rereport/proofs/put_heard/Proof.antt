@@ -1,4 +1,5 @@
 -- `rereport::put_heard` meets its contract. Assumes nothing.
+use Rattle.lent.specs.Lending.{modelIn}
 use Rattle.text.proofs.Puts.{put-length}
 use Rattle.rereport.proofs.Cases.{case-put, case-line}
 use native.Mathlib.Omega.{arith}
@@ -55,31 +56,41 @@ same-length : tie.Need-same-length
 same-length c = put-length (c .before .before .put-checked .ensures)
 
 returns : tie.Need-returns
-returns c = case-put _ (c .before .before .before .before .enum-told .given .1) (c .before .before .put-checked .ensures)
+returns c =
+    let a = c .before .before .before .before .before .before .before .before .before .args in
+    case-put (modelIn (a .m .now)) (a .heads .now) (a .triples .now) (c .before .before .before .before .enum-told .given .1) (c .before .before .put-checked .ensures)
 
 same-length-2 : tie.Need-same-length-2
 same-length-2 c = put-length (c .before .before .put-refused .ensures)
 
 returns-2 : tie.Need-returns-2
-returns-2 c = case-put _ (c .before .before .before .before .enum-told2 .given .1) (c .before .before .put-refused .ensures)
+returns-2 c =
+    let a = c .before .before .before .before .before .before .before .before .before .args in
+    case-put (modelIn (a .m .now)) (a .heads .now) (a .triples .now) (c .before .before .before .before .enum-told2 .given .1) (c .before .before .put-refused .ensures)
 
 same-length-3 : tie.Need-same-length-3
 same-length-3 c = put-length (c .before .before .put-refused2 .ensures)
 
 returns-3 : tie.Need-returns-3
-returns-3 c = case-put _ (c .before .before .before .before .before .heard .given .1) (c .before .before .put-refused2 .ensures)
+returns-3 c =
+    let a = c .before .before .before .before .before .before .before .before .before .before .args in
+    case-put (modelIn (a .m .now)) (a .heads .now) (a .triples .now) (c .before .before .before .before .before .heard .given .1) (c .before .before .put-refused2 .ensures)
 
 same-length-4 : tie.Need-same-length-4
 same-length-4 c = put-length (c .before .before .put-refused3 .ensures)
 
 returns-4 : tie.Need-returns-4
-returns-4 c = case-put _ (c .before .before .before .before .before .heard2 .given .1) (c .before .before .put-refused3 .ensures)
+returns-4 c =
+    let a = c .before .before .before .before .before .before .before .before .before .before .args in
+    case-put (modelIn (a .m .now)) (a .heads .now) (a .triples .now) (c .before .before .before .before .before .heard2 .given .1) (c .before .before .put-refused3 .ensures)
 
 same-length-5 : tie.Need-same-length-5
 same-length-5 c = put-length (c .before .before .put-refused4 .ensures)
 
 returns-5 : tie.Need-returns-5
-returns-5 c = case-put _ (c .before .before .before .before .before .heard3 .given .1) (c .before .before .put-refused4 .ensures)
+returns-5 c =
+    let a = c .before .before .before .before .before .before .before .before .before .before .args in
+    case-put (modelIn (a .m .now)) (a .heads .now) (a .triples .now) (c .before .before .before .before .before .heard3 .given .1) (c .before .before .put-refused4 .ensures)
 
 returns-6 : tie.Need-returns-6
 returns-6 c = absurd (c .before .before .before .before .before .pre .not-invalid (c .enum-told3 .given .1))

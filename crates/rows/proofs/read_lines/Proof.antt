@@ -1,4 +1,4 @@
--- `rows::read_lines` meets its contract. Assumes nothing.
+-- `rows::read_lines` meets its contract. The loop's invariant is `Turn`, and the arrays are as long as they were; what is left of the text falls. Assumes nothing.
 use lib.ListN.{length}
 use mathlib.Core.Path.{_≡_, refl, _∙_}
 use Rattle.text.proofs.Split.{after-shorter}
@@ -42,7 +42,10 @@ same-length-4 : tie.Need-same-length-4 Inv-loop μ-loop
 same-length-4 c = search needs
 
 returns-2 : tie.Need-returns-2 Inv-loop μ-loop
-returns-2 c = refused-turn (c .before .before .before .before .before .before .before .before .before .before .before .before .before .loop .inv .2) (c .before .before .before .before .before .before .before .before .before .before .before .read-line .ensures) (c .before .before .before .before .before .before .before .before .before .before .if1 .left) (c .before .before .before .before .before .before .take-line .ensures) (c .if2 .taken)
+returns-2 c =
+    let taken = c .before .before .before .before .before .before in
+    let read = taken .before .before .before .before .before in
+    refused-turn (read .before .before .loop .inv .2) (read .read-line .ensures) (taken .before .before .before .before .if1 .left) (taken .take-line .ensures) (c .if2 .taken)
 
 add-line : tie.Need-add-line Inv-loop μ-loop
 add-line c = let r = c .before .before .before .before .before .before .before .before .before .before .before .before .before .loop .inv .2 .room in search needs
@@ -63,7 +66,14 @@ loop-less : tie.Need-loop-less Inv-loop μ-loop
 loop-less c = after-shorter _ (c .before .before .before .before .before .before .before .before .before .before .before .before .before .before .loop .rest .now) (c .before .before .before .before .before .before .before .before .before .before .before .if1 .left)
 
 loop-again : tie.Need-loop-again Inv-loop μ-loop
-loop-again c = let i = c .before .before .before .before .before .before .before .before .before .before .before .before .before .before .loop .inv in (c .before .before .before .before .before .before .before .take-line .kept .0 ∙ i .0, c .before .before .before .before .before .before .before .take-line .kept .1 .0 ∙ i .1, next-turn (c .before .before .before .before .before .before .before .before .before .before .before .before .before .before .loop .inv .2) (c .before .before .before .before .before .before .before .before .before .before .before .before .read-line .ensures) (c .before .before .before .before .before .before .before .before .before .before .before .if1 .left) (c .before .before .before .before .before .before .before .take-line .ensures) (c .before .if2 .left))
+loop-again c =
+    let taken = c .before .before .before .before .before .before .before in
+    let read = taken .before .before .before .before .before in
+    let i = read .before .before .loop .inv in (
+      taken .take-line .kept .0 ∙ i .0,
+      taken .take-line .kept .1 .0 ∙ i .1,
+      next-turn (i .2) (read .read-line .ensures) (taken .before .before .before .before .if1 .left) (taken .take-line .ensures) (c .before .if2 .left),
+    )
 
 finish-requires : tie.Need-finish-requires Inv-loop μ-loop
 finish-requires c κs = search needs
@@ -78,4 +88,29 @@ returns-3 : tie.Need-returns-3 Inv-loop μ-loop
 returns-3 c = done (c .before .before .loop .inv .2) (c .before .loop-test .left) (c .finish .ensures _ _)
 
 pub read-lines-spec : {M : Type 1} → statement M
-read-lines-spec = tie.close (tie.spec Inv-loop μ-loop nothing-requires loop-holds read-line-requires same-length same-length-2 returns take-line-requires same-length-3 same-length-4 returns-2 add-line add-b sub-rest part-rest-start part-rest-end loop-less loop-again finish-requires same-length-5 same-length-6 returns-3)
+read-lines-spec =
+    tie.close
+    (tie.spec
+    Inv-loop
+    μ-loop
+    nothing-requires
+    loop-holds
+    read-line-requires
+    same-length
+    same-length-2
+    returns
+    take-line-requires
+    same-length-3
+    same-length-4
+    returns-2
+    add-line
+    add-b
+    sub-rest
+    part-rest-start
+    part-rest-end
+    loop-less
+    loop-again
+    finish-requires
+    same-length-5
+    same-length-6
+    returns-3)

@@ -23,7 +23,10 @@ same-length-2 : tie.Need-same-length-2
 same-length-2 c = search needs
 
 returns-2 : tie.Need-returns-2
-returns-2 c = let a = c .before .before .before .before .before .before .before .before .before .before .before .args in c .before .before .before .before .read-lines .ensures ∙ short-text (a .size) (before (a .heads .now) (a .triples .now)) (a .text .now) (c .before .before .before .before .before .before .before .if1 .left)
+returns-2 c =
+    let read = c .before .before .before .before in
+    let a = read .before .before .before .before .before .before .before .args in
+    read .read-lines .ensures ∙ short-text (a .size) (before (a .heads .now) (a .triples .now)) (a .text .now) (read .before .before .before .if1 .left)
 
 pub read-text-spec : {M : Type 1} → statement M
 read-text-spec = tie.close (tie.spec nothing-requires returns read-lines-requires same-length same-length-2 returns-2)

@@ -1,4 +1,4 @@
--- `splitter::listing_at` meets its contract. Assumes nothing.
+-- `splitter::listing_at` meets its contract. The loop's invariant: the listing does not begin before the place; what is left of the text falls. Assumes nothing.
 use mathlib.Core.Path.{_≡_, sym, _∙_}
 use mathlib.Core.Bool.{false}
 use mathlib.Core.Logic.{⊎-elim, inl, inr}

@@ -1,4 +1,4 @@
--- `steps::join` meets its contract. The loop's invariant: what is left, with what is joined, makes what was asked. Assumes nothing.
+-- `steps::join` meets its contract. The loop's invariant: what is left, with what is joined, makes what was asked; the set that is left falls, as a number. Assumes nothing.
 use mathlib.Core.Path.{refl}
 use Prim.Native.Nat.{_<_, _^_}
 use denote.Ref.{now}

@@ -1,4 +1,4 @@
--- `table::fill` meets its contract. Assumes nothing.
+-- `table::fill` meets its contract. The loop's invariant: the first i cells are cleared; those that are left fall. Assumes nothing.
 use mathlib.Core.Path.{_≡_, refl, _∙_}
 use Prim.Native.Nat.{_≤_, _-_}
 use lib.ListN.{length, length-set}

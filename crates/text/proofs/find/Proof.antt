@@ -1,5 +1,5 @@
--- `find` meets its contract. The invariant: what was passed and the first piece of what is left make the first piece.
--- Assumes nothing.
+-- `find` meets its contract. The invariant: what was passed and the first piece of what is left make the first piece; what is left
+-- falls. Assumes nothing.
 use mathlib.Core.Path.{_≡_, ap}
 use Prim.Native.Nat.{_+_, _-_, _≤_}
 use native.Mathlib.Omega.{arith}

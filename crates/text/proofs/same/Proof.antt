@@ -1,4 +1,4 @@
--- `same` meets its contract. The invariant: what is left of the two is the same exactly if they are. Assumes nothing.
+-- `same` meets its contract. The invariant: what is left of the two is the same exactly if they are; what is left falls. Assumes nothing.
 use Prim.Native.Nat.{_≤_, _-_}
 use mathlib.Core.Path.{_≡_, sym, _∙_}
 use lib.ListN.{length, drop}

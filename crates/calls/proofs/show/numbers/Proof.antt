@@ -1,4 +1,4 @@
--- `calls::show::numbers` meets its contract. Assumes nothing.
+-- `calls::show::numbers` meets its contract. The loop's invariant: i is at most the length; what is left falls. Assumes nothing.
 use Prim.Native.Nat.{_≤_, _-_}
 use lib.ListN.{length}
 use borrow.Author.Needs.{needs}

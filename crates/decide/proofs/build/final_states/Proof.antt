@@ -1,4 +1,4 @@
--- `decide::build::final_states` meets its contract. Assumes nothing.
+-- `decide::build::final_states` meets its contract. The loop's invariant: the states before q are entered; the states that are left fall. Assumes nothing.
 use Prim.Native.Nat.{_≤_, _-_}
 use Rattle.decide.proofs.Building.{FinalsTo, finals-none, finals-more, finals-all}
 use borrow.Author.Needs.{needs}

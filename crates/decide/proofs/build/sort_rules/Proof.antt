@@ -1,4 +1,4 @@
--- `decide::build::sort_rules` meets its contract. Assumes nothing.
+-- `decide::build::sort_rules` meets its contract. The loop's invariant: the rules before r are sorted; the rules that are left fall. Assumes nothing.
 use Prim.Native.Nat.{_≤_, _-_}
 use native.Mathlib.Omega.{arith}
 use borrow.Author.Needs.{needs}

@@ -1,4 +1,4 @@
--- `decide::heads::settle_heads` meets its contract. Assumes nothing.
+-- `decide::heads::settle_heads` meets its contract. The loop's invariant: what is left to settle, with what is done, makes what was asked; the set that is left falls, as a number. Assumes nothing.
 use lib.Count.{trailing-le}
 use Rattle.bits.proofs.Lowest.{cleared-less}
 use Rattle.decide.proofs.Showing.{RowsLeft, rows-first, rows-next, rows-last, rows-room, row-low, row-fits}

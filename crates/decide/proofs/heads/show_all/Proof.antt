@@ -1,4 +1,4 @@
--- `decide::heads::show_all` meets its contract. Assumes nothing.
+-- `decide::heads::show_all` meets its contract. The loop's invariant: what is left to show, with the rows as they are, makes what was asked; the set that is left loses weight. Assumes nothing.
 use Rattle.decide.specs.Sets.{weight}
 use Rattle.decide.proofs.Showing.{Left, left-first, left-next, left-last}
 use native.Mathlib.Omega.{arith}

@@ -1,4 +1,4 @@
--- `decide::rounds::look` meets its contract. Assumes nothing.
+-- `decide::rounds::look` meets its contract. The loop's invariant: what is left to look at, with what was found, makes what was asked; the set that is left falls, as a number. Assumes nothing.
 use lib.Count.{trailing-le}
 use Rattle.bits.proofs.Lowest.{cleared-less}
 use Rattle.decide.proofs.Found.{Left, left-first, left-next, left-last, lowest-low}

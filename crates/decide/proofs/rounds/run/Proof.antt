@@ -1,4 +1,4 @@
--- `decide::rounds::run` meets its contract. Assumes nothing.
+-- `decide::rounds::run` meets its contract. The loop's invariant: the arrays are those after round n, and the rows are empty; the rounds that there can be at most fall. Assumes nothing.
 use Prim.Native.Nat.{_-_}
 use Rattle.decide.specs.Gather.{Empty}
 use Rattle.decide.proofs.Emptied.{empty-first}

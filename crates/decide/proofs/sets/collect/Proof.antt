@@ -1,4 +1,4 @@
--- `decide::sets::collect` meets its contract. Assumes nothing.
+-- `decide::sets::collect` meets its contract. The loop's invariant: what is left to collect, with what is collected, makes what was asked; the set that is left falls, as a number. Assumes nothing.
 use lib.Count.{trailing-le}
 use Rattle.bits.proofs.Lowest.{cleared-less}
 use Rattle.decide.proofs.Choosing.{Left, left-first, left-next, left-last, lowest-low}

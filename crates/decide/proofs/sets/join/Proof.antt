@@ -1,4 +1,4 @@
--- `decide::sets::join` meets its contract. Assumes nothing.
+-- `decide::sets::join` meets its contract. The loop's invariant: the first k words are joined; the words that are left fall. Assumes nothing.
 use Prim.Native.Nat.{_-_}
 use Rattle.decide.proofs.Members.{JoinedTo, joined-none, joined-more, joined-all}
 use borrow.Author.Needs.{needs}

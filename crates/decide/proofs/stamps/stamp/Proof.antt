@@ -1,4 +1,4 @@
--- `decide::stamps::stamp` meets its contract. Assumes nothing.
+-- `decide::stamps::stamp` meets its contract. The loop's invariant: what is left to stamp, with the table as it is, makes what was asked; the set that is left falls, as a number. Assumes nothing.
 use mathlib.Core.Path.{_≡_, refl}
 use Prim.Native.Nat.{_*_}
 use native.Mathlib.Omega.{arith}

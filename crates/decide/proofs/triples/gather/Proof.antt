@@ -1,4 +1,4 @@
--- `decide::triples::gather` meets its contract. Assumes nothing.
+-- `decide::triples::gather` meets its contract. The loop's invariant: what is left to gather, with the matrices as they are, makes what was asked; the set that is left loses weight. Assumes nothing.
 use mathlib.Core.Path.{refl}
 use Rattle.decide.specs.Sets.{weight}
 use Rattle.decide.proofs.Gathered.{Left, left-first, left-next, left-last}

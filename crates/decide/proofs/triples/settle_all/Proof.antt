@@ -1,4 +1,4 @@
--- `decide::triples::settle_all` meets its contract. Assumes nothing.
+-- `decide::triples::settle_all` meets its contract. The loop's invariant: what is left to settle, with what is done, makes what was asked; the set that is left loses weight. Assumes nothing.
 use Rattle.decide.specs.Sets.{weight}
 use Rattle.decide.proofs.Settling.{Left, left-first, left-next, left-last, left-room}
 use native.Mathlib.Omega.{arith}

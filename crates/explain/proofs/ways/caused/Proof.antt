@@ -2,8 +2,6 @@
 use borrow.Author.Tests.{eq-eqb, ne-eqb}
 use Rattle.explain.proofs.ways.caused.Statement.{statement}
 use Rattle.explain.proofs.ways.caused.Tie as tie
-use Rattle.explain.proofs.ways.caused.Reads as reads
-use Rattle.explain.proofs.ways.caused.Lts as lts
 
 returns : tie.Need-returns
 returns c = rw (ne-eqb _ _ (c .if1 .taken))

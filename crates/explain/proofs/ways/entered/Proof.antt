@@ -4,14 +4,11 @@ use Rattle.explain.proofs.Given.{enters-elsewhere, enters-it}
 use borrow.Author.Needs.{needs}
 use Rattle.explain.proofs.ways.entered.Statement.{statement}
 use Rattle.explain.proofs.ways.entered.Tie as tie
-use Rattle.explain.proofs.ways.entered.Reads as reads
-use Rattle.explain.proofs.ways.entered.Lts as lts
-use Rattle.explain.proofs.ways.caused.Reads as caused-reads
 
 returns : tie.Need-returns
 returns c =
-    let a = c .before .before .args in
-    enters-elsewhere (a .q) (a .g) (a .s .rule) (a .s .by) (a .s .free) (a .s .to) (c .if1 .taken) (meant (a .rule))
+    let a = c .before .args in
+    enters-elsewhere (a .q) (a .g) (a .s .rule) (a .s .by) (a .s .free) (a .y) (c .if1 .taken) (meant (a .rule))
 
 enum-told : tie.Need-enum-told
 enum-told c = c .match .keys1
@@ -33,15 +30,15 @@ returns-2 c = search needs
 
 returns-3 : tie.Need-returns-3
 returns-3 c =
-    let a = c .before .before .before .before .before .before .args in
+    let a = c .before .before .before .before .before .args in
     let (g0, (g1, _)) = c .before .before .rule .given .0 in
-    rw (c .before .before .rule .given .1) (enters-it (a .q) (a .g) (a .s .rule) (a .s .by) (a .s .free) (a .s .to) (c .before .before .before .before .if1 .left) g0 g1 (c .caused .ensures))
+    rw (c .before .before .rule .given .1) (enters-it (a .q) (a .g) (a .s .rule) (a .s .by) (a .s .free) (a .y) (c .before .before .before .before .if1 .left) g0 g1 (c .caused .ensures))
 
 returns-4 : tie.Need-returns-4
 returns-4 c =
-    let a = c .before .before .before .before .before .before .args in
+    let a = c .before .before .before .before .before .args in
     let (g0, (g1, _)) = c .before .before .rule2 .given .0 in
-    rw (c .before .before .rule2 .given .1) (enters-it (a .q) (a .g) (a .s .rule) (a .s .by) (a .s .free) (a .s .to) (c .before .before .before .before .if1 .left) g0 g1 (c .caused2 .ensures))
+    rw (c .before .before .rule2 .given .1) (enters-it (a .q) (a .g) (a .s .rule) (a .s .by) (a .s .free) (a .y) (c .before .before .before .before .if1 .left) g0 g1 (c .caused2 .ensures))
 
 pub entered-spec : {M : Type 1} → statement M
 entered-spec =

@@ -2,32 +2,23 @@
 use borrow.Author.Needs.{needs}
 use Rattle.explain.proofs.ways.second.Statement.{statement}
 use Rattle.explain.proofs.ways.second.Tie as tie
-use Rattle.explain.proofs.ways.second.Reads as reads
-use Rattle.explain.proofs.ways.second.Lts as lts
-use Rattle.explain.proofs.ways.returned.Reads as returned-reads
-
-enum-told : tie.Need-enum-told
-enum-told c = c .match .keys1
 
 enum-known-f : tie.Need-enum-known-f
-enum-known-f c = c .match .keys2
+enum-known-f c = c .match .keys1
 
 returned-requires : tie.Need-returned-requires
 returned-requires c κs = tt
 
-enum-told-2 : tie.Need-enum-told-2
-enum-told-2 c = c .match .keys3
+enum-told : tie.Need-enum-told
+enum-told c = c .match .keys2
 
 returns : tie.Need-returns
-returns c = search needs
+returns c = rw (c .before .before .f .given .1) (c .returned .ensures)
 
 returns-2 : tie.Need-returns-2
-returns-2 c = rw (c .before .before .f .given .1) (c .returned .ensures)
-
-returns-3 : tie.Need-returns-3
-returns-3 c = search needs
+returns-2 c = search needs
 
 pub second-spec : {M : Type 1} → statement M
 second-spec =
     tie.close
-    (tie.spec enum-told enum-known-f returned-requires enum-told-2 returns returns-2 returns-3)
+    (tie.spec enum-known-f returned-requires enum-told returns returns-2)

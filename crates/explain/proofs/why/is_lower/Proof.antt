@@ -21,37 +21,55 @@ rank-of-requires c κs = tt
 
 returns-2 : tie.Need-returns-2
 returns-2 c =
-    let a = c .before .before .before .before .before .before .before .args in
-    let (w, _) = c .before .before .before .w .given .0 in
+    let one = c .before in
+    let told = one .before .before in
+    let a = told .before .before .before .before .args in
+    let (w, _) = told .w .given .0 in
     let t = view (a .size .symbols) (a .size .states) (a .heads .now) (a .triples .now) in
-    rw (c .before .before .before .w .given .1) (lacks-before (lower t (suc (a .k))) w (high t (a .k) (w .before) (c .before .rank-of .ensures) (c .if1 .taken)))
+    rw (told .w .given .1) (lacks-before (lower t (suc (a .k))) w (high t (a .k) (w .before) (one .rank-of .ensures) (c .if1 .taken)))
 
 rank-of-requires-2 : tie.Need-rank-of-requires-2
 rank-of-requires-2 c κs = tt
 
 returns-3 : tie.Need-returns-3
 returns-3 c =
-    let a = c .before .before .before .before .before .before .before .before .before .args in
-    let (w, _) = c .before .before .before .before .before .w .given .0 in
+    let two = c .before in
+    let one = two .before .before in
+    let told = one .before .before in
+    let a = told .before .before .before .before .args in
+    let (w, _) = told .w .given .0 in
     let t = view (a .size .symbols) (a .size .states) (a .heads .now) (a .triples .now) in
-    rw (c .before .before .before .before .before .w .given .1) (lacks-first (lower t (suc (a .k))) w (low t (a .k) (w .before) (c .before .before .before .rank-of .ensures) (c .before .before .if1 .left)) (high t (a .k) (w .first) (c .before .rank-of2 .ensures) (c .if2 .taken)))
+    let l1 = low t (a .k) (w .before) (one .rank-of .ensures) (two .before .if1 .left) in
+    rw (told .w .given .1) (lacks-first (lower t (suc (a .k))) w l1 (high t (a .k) (w .first) (two .rank-of2 .ensures) (c .if2 .taken)))
 
 rank-of-requires-3 : tie.Need-rank-of-requires-3
 rank-of-requires-3 c κs = tt
 
 returns-4 : tie.Need-returns-4
 returns-4 c =
-    let a = c .before .before .before .before .before .before .before .before .before .before .before .args in
-    let (w, _) = c .before .before .before .before .before .before .before .w .given .0 in
+    let three = c .before in
+    let two = three .before .before in
+    let one = two .before .before in
+    let told = one .before .before in
+    let a = told .before .before .before .before .args in
+    let (w, _) = told .w .given .0 in
     let t = view (a .size .symbols) (a .size .states) (a .heads .now) (a .triples .now) in
-    rw (c .before .before .before .before .before .before .before .w .given .1) (lacks-second (lower t (suc (a .k))) w (low t (a .k) (w .before) (c .before .before .before .before .before .rank-of .ensures) (c .before .before .before .before .if1 .left)) (low t (a .k) (w .first) (c .before .before .before .rank-of2 .ensures) (c .before .before .if2 .left)) (high t (a .k) (w .second) (c .before .rank-of3 .ensures) (c .if3 .taken)))
+    let l1 = low t (a .k) (w .before) (one .rank-of .ensures) (two .before .if1 .left) in
+    let l2 = low t (a .k) (w .first) (two .rank-of2 .ensures) (three .before .if2 .left) in
+    rw (told .w .given .1) (lacks-second (lower t (suc (a .k))) w l1 l2 (high t (a .k) (w .second) (three .rank-of3 .ensures) (c .if3 .taken)))
 
 returns-5 : tie.Need-returns-5
 returns-5 c =
-    let a = c .before .before .before .before .before .before .before .before .before .before .before .args in
-    let (w, _) = c .before .before .before .before .before .before .before .w .given .0 in
+    let three = c .before in
+    let two = three .before .before in
+    let one = two .before .before in
+    let told = one .before .before in
+    let a = told .before .before .before .before .args in
+    let (w, _) = told .w .given .0 in
     let t = view (a .size .symbols) (a .size .states) (a .heads .now) (a .triples .now) in
-    rw (c .before .before .before .before .before .before .before .w .given .1) (has-all (lower t (suc (a .k))) w (low t (a .k) (w .before) (c .before .before .before .before .before .rank-of .ensures) (c .before .before .before .before .if1 .left)) (low t (a .k) (w .first) (c .before .before .before .rank-of2 .ensures) (c .before .before .if2 .left)) (low t (a .k) (w .second) (c .before .rank-of3 .ensures) (c .if3 .left)))
+    let l1 = low t (a .k) (w .before) (one .rank-of .ensures) (two .before .if1 .left) in
+    let l2 = low t (a .k) (w .first) (two .rank-of2 .ensures) (three .before .if2 .left) in
+    rw (told .w .given .1) (has-all (lower t (suc (a .k))) w l1 l2 (low t (a .k) (w .second) (three .rank-of3 .ensures) (c .if3 .left)))
 
 pub is-lower-spec : {M : Type 1} → statement M
 is-lower-spec =

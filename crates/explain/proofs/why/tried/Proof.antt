@@ -1,16 +1,11 @@
 -- `explain::why::tried` meets its contract. Assumes nothing.
 use Prim.Native.Nat.{suc}
+use Rattle.table.specs.Places.{factOf}
 use Rattle.lent.specs.Lending.{productIn}
 use Rattle.explain.specs.Search.{below}
 use Rattle.explain.proofs.Tried.{tried-stuck, tried-to}
 use Rattle.explain.proofs.why.tried.Statement.{statement}
 use Rattle.explain.proofs.why.tried.Tie as tie
-use Rattle.explain.proofs.why.tried.Reads as reads
-use Rattle.explain.proofs.why.tried.Lts as lts
-use Rattle.explain.proofs.ways.first.Reads as first-reads
-use Rattle.explain.proofs.ways.second.Reads as second-reads
-use Rattle.explain.proofs.why.first_lower.Reads as first-lower-reads
-use Rattle.explain.proofs.why.source.Reads as source-reads
 
 source-requires : tie.Need-source-requires
 source-requires c κs = tt
@@ -38,13 +33,19 @@ first-lower-requires c κs = tt
 
 returns : tie.Need-returns
 returns c =
-    let a = c .before .before .before .before .before .before .args in
-    tried-stuck (productIn (a .m .now)) (below (a .size .symbols) (a .size .states) (a .heads .now) (a .triples .now) (suc (a .k))) (a .f) (a .r) (a .v) (a .x) (c .before .before .before .source .ensures) (c .before .before .next-state .ensures .0) (c .enum-told .given .1)
+    let stepped = c .before .before in
+    let a = stepped .before .before .before .before .args in
+    let h = below (a .ask .size .symbols) (a .ask .size .states) (a .heads .now) (a .triples .now) (suc (a .ask .k)) in
+    tried-stuck (productIn (a .m .now)) h (factOf (a .ask .f)) (a .s .rule) (a .s .by) (a .s .free) (stepped .before .source .ensures) (stepped .next-state .ensures .0) (c .enum-told .given .1)
 
 returns-2 : tie.Need-returns-2
 returns-2 c =
-    let a = c .before .before .before .before .before .before .before .before .before .before .before .args in
-    tried-to (productIn (a .m .now)) (below (a .size .symbols) (a .size .states) (a .heads .now) (a .triples .now) (suc (a .k))) (a .f) (a .r) (a .v) (a .x) (c .before .before .before .before .before .before .before .before .source .ensures) (c .before .before .before .before .before .before .before .next-state .ensures .0) (c .before .before .before .before .before .next .given .1) (c .before .before .before .rule-at .ensures) (c .before .before .first .ensures) (c .before .second .ensures) (c .first-lower .ensures)
+    let rule = c .before .before .before .before in
+    let stepped = rule .before .before .before .before in
+    let a = stepped .before .before .before .before .args in
+    let h = below (a .ask .size .symbols) (a .ask .size .states) (a .heads .now) (a .triples .now) (suc (a .ask .k)) in
+    tried-to (productIn (a .m .now)) h (factOf (a .ask .f)) (a .s .rule) (a .s .by) (a .s .free) (stepped .before .source .ensures) (stepped .next-state .ensures .0)
+    (rule .before .before .next .given .1) (rule .rule-at .ensures) (c .before .before .before .first .ensures) (c .before .before .second .ensures) (c .first-lower .ensures)
 
 pub tried-spec : {M : Type 1} → statement M
 tried-spec =

@@ -1,4 +1,4 @@
--- `recheck::facts::all_heads` meets its contract. The loop's invariant: the symbols before g have their heads. Assumes nothing.
+-- `recheck::facts::all_heads` meets its contract. The loop's invariant: the symbols before g have their heads; the symbols that are left fall. Assumes nothing.
 use mathlib.Core.Path.{_≡_, refl, _∙_}
 use Prim.Native.Nat.{ℕ, _<_, _≤_, _-_}
 use native.Mathlib.Omega.{arith}
@@ -47,7 +47,11 @@ loop-again c =
     let a = c .before .before .before .before .before .before .args in
     let p = c .before .before .before .before .before .before .pre in
     let l = c .before .before .loop in
-    (omega arith, length-set (l .hs) (l .g) _ ∙ l .inv .1, stored (λ d m. Heads (a .size .symbols) (a .size .states) (now (a .heads)) d m) (l .hs) (l .g) _ (omega (arith, l .inv .1, p .0)) (l .inv .2) (heads-are (a .size .symbols) (a .size .states) (now (a .heads)) (l .g) (p .1 .0) (omega arith) _ (c .with-row .ensures)))
+    let is = heads-are (a .size .symbols) (a .size .states) (now (a .heads)) (l .g) (p .1 .0) (omega arith) _ (c .with-row .ensures) in (
+      omega arith,
+      length-set (l .hs) (l .g) _ ∙ l .inv .1,
+      stored (λ d m. Heads (a .size .symbols) (a .size .states) (now (a .heads)) d m) (l .hs) (l .g) _ (omega (arith, l .inv .1, p .0)) (l .inv .2) is,
+    )
 
 returns : tie.Need-returns Inv-loop μ-loop
 returns c = λ g l. c .before .loop .inv .2 g (omega arith)

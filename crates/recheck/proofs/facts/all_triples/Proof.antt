@@ -1,4 +1,4 @@
--- `recheck::facts::all_triples` meets its contract. The loop's invariant: the symbols before g have their triples. Assumes nothing.
+-- `recheck::facts::all_triples` meets its contract. The loop's invariant: the symbols before g have their triples; the symbols that are left fall. Assumes nothing.
 use mathlib.Core.Path.{_≡_, refl, _∙_}
 use Prim.Native.Nat.{ℕ, _<_, _≤_, _-_}
 use native.Mathlib.Omega.{arith}

@@ -1,4 +1,4 @@
--- `recheck::facts::row_of_eight` meets its contract. The loop's invariant: the cells before e are set. Assumes nothing.
+-- `recheck::facts::row_of_eight` meets its contract. The loop's invariant: the cells before e are set; those that are left fall. Assumes nothing.
 use Prim.Native.Nat.{_≤_, _-_}
 use native.Mathlib.Nat.{mul-one, zero-add}
 use native.Mathlib.Omega.{arith}

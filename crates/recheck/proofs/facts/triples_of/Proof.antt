@@ -1,4 +1,4 @@
--- `recheck::facts::triples_of` meets its contract. The loop's invariant: the rows before q are set. Assumes nothing.
+-- `recheck::facts::triples_of` meets its contract. The loop's invariant: the rows before q are set; those that are left fall. Assumes nothing.
 use Prim.Native.Nat.{_≤_, _-_}
 use native.Mathlib.Omega.{arith}
 use denote.Ref.{now}

@@ -1,4 +1,4 @@
--- `recheck::facts::triples_of_eight` meets its contract. The loop's invariant: the rows before q are in their places. Assumes nothing.
+-- `recheck::facts::triples_of_eight` meets its contract. The loop's invariant: the rows before q are in their places; those that are left fall. Assumes nothing.
 use mathlib.Core.Path.{subst, subst⁻¹}
 use Prim.Native.Nat.{_*_, _≤_, _-_}
 use native.Mathlib.Omega.{arith}

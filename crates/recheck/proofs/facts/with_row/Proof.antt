@@ -1,4 +1,4 @@
--- `recheck::facts::with_row` meets its contract. The loop's invariant: the cells before e are set. Assumes nothing.
+-- `recheck::facts::with_row` meets its contract. The loop's invariant: the cells before e are set; those that are left fall. Assumes nothing.
 use Prim.Native.Nat.{_≤_, _-_}
 use native.Mathlib.Omega.{arith}
 use denote.Ref.{now}

@@ -1,4 +1,4 @@
--- `recheck::search::open_move` meets its contract. The loop's invariant: no step of rule r and the moves before v is open. Assumes nothing.
+-- `recheck::search::open_move` meets its contract. The loop's invariant: no step of rule r and the moves before v is open; the moves that are left fall. Assumes nothing.
 use mathlib.Core.List.{[], _∷_}
 use mathlib.Core.Option.{none}
 use mathlib.Core.Path.{_≡_, refl, sym, ap}
@@ -28,9 +28,13 @@ steps-kept-requires c κs = search needs
 
 returns : tie.Need-returns Inv-loop μ-loop
 returns c =
-    let a = c .before .before .before .before .before .before .args in
-    let v = c .before .before .before .loop .v in
-    sym (ap foundAs (find-here (isOpen (productIn (now (a .m))) (a .size .states) (inTable (a .size) (now (a .heads)) (now (a .triples)))) (λ v. step (a .r) v ∷ []) (a .moves) v (step (a .r) v) (search needs) (c .before .before .before .loop .inv .1) (hit (isClosed (productIn (now (a .m))) (a .size .states) (inTable (a .size) (now (a .heads)) (now (a .triples)))) (step (a .r) v) (c .before .steps-kept .ensures) (c .if1 .taken))))
+    let turn = c .before .before .before in
+    let a = turn .before .before .before .args in
+    let v = turn .loop .v in
+    let k = productIn (now (a .m)) in
+    let t = inTable (a .size) (now (a .heads)) (now (a .triples)) in
+    let at = hit (isClosed k (a .size .states) t) (step (a .r) v) (c .before .steps-kept .ensures) (c .if1 .taken) in
+    sym (ap foundAs (find-here (isOpen k (a .size .states) t) (λ v. step (a .r) v ∷ []) (a .moves) v (step (a .r) v) (search needs) (turn .loop .inv .1) at))
 
 add-v : tie.Need-add-v Inv-loop μ-loop
 add-v c = search needs
@@ -40,9 +44,13 @@ loop-less c = search needs
 
 loop-again : tie.Need-loop-again Inv-loop μ-loop
 loop-again c =
-    let a = c .before .before .before .before .before .before .args in
-    let v = c .before .before .before .loop .v in
-    (search needs, find-more (isOpen (productIn (now (a .m))) (a .size .states) (inTable (a .size) (now (a .heads)) (now (a .triples)))) (λ v. step (a .r) v ∷ []) v (c .before .before .before .loop .inv .1) (miss (isClosed (productIn (now (a .m))) (a .size .states) (inTable (a .size) (now (a .heads)) (now (a .triples)))) (step (a .r) v) (c .before .steps-kept .ensures) (c .if1 .left)))
+    let turn = c .before .before .before in
+    let a = turn .before .before .before .args in
+    let v = turn .loop .v in
+    let k = productIn (now (a .m)) in
+    let t = inTable (a .size) (now (a .heads)) (now (a .triples)) in
+    let on = miss (isClosed k (a .size .states) t) (step (a .r) v) (c .before .steps-kept .ensures) (c .if1 .left) in
+    (search needs, find-more (isOpen k (a .size .states) t) (λ v. step (a .r) v ∷ []) v (turn .loop .inv .1) on)
 
 returns-2 : tie.Need-returns-2 Inv-loop μ-loop
 returns-2 c =

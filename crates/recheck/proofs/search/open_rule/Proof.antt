@@ -1,4 +1,4 @@
--- `recheck::search::open_rule` meets its contract. The loop's invariant: the rules before r are closed. Assumes nothing.
+-- `recheck::search::open_rule` meets its contract. The loop's invariant: the rules before r are closed; the rules that are left fall. Assumes nothing.
 use Prim.Native.Nat.{ℕ, _<_, _≤_, _-_}
 use native.Mathlib.Omega.{arith}
 use denote.Ref.{now}

@@ -38,7 +38,7 @@ returns c =
     let read = built .before in
     let start = read .before .before .before in
     let a = start .args in
-    nowhere-at (modelIn (now (a .m))) (start .pre .valid-model) (now (a .heads)) (now (a .triples)) (a .size) (start .pre .size-is) _ _
+    nowhere-at (modelIn (now (a .m))) (start .pre .fits .valid-model) (now (a .heads)) (now (a .triples)) (a .size) (start .pre .size-is) _ _
     (seen .before .all-triples .ensures, seen .all-heads .ensures) _ _ (ap (λ (s : Shape). s .rules) (read .shape .ensures)) (built .class-steps .ensures)
     (ruled .open-rule .ensures) (c .if1 .taken)
 
@@ -54,7 +54,7 @@ returns-2 c =
     let read = built .before in
     let start = read .before .before .before in
     let a = start .args in
-    first-at (modelIn (now (a .m))) (start .pre .valid-model) (now (a .heads)) (now (a .triples)) (a .size) (start .pre .size-is) _ _
+    first-at (modelIn (now (a .m))) (start .pre .fits .valid-model) (now (a .heads)) (now (a .triples)) (a .size) (start .pre .size-is) _ _
     (seen .before .all-triples .ensures, seen .all-heads .ensures) _ _ (ap (λ (s : Shape). s .rules) (read .shape .ensures)) (built .class-steps .ensures)
     (ruled .open-rule .ensures) (c .before .if1 .left) _ (ap (λ (s : Shape). s .moves) (read .shape .ensures)) (c .open-move .ensures)
 

@@ -1,4 +1,4 @@
--- `recheck::search::steps_kept` meets its contract. The loop's invariant: the steps from the states before q are kept. Assumes nothing.
+-- `recheck::search::steps_kept` meets its contract. The loop's invariant: the steps from the states before q are kept; the states that are left fall. Assumes nothing.
 use borrow.Author.Needs.{needs}
 use mathlib.Core.Bool.{true}
 use mathlib.Core.Path.{_≡_, refl}
@@ -41,7 +41,9 @@ returns c =
     let k = productIn (now (a .m)) in
     let p = stepKept k (a .size .states) t (a .r) (a .v) in
     let w = c .before .before .before .before .before .loop in
-    stop p (w .q) (kept-read (a .size .states) t (w .q) (k .rule (a .r)) (k .next (step (a .r) (a .v)) (w .q)) (c .before .before .before .before .before .before .rule-at .ensures) (c .before .before .next-state .ensures .0) (c .before .next-kept .ensures)) (a .size .states) (search needs) (c .if2 .taken)
+    let rule = c .before .before .before .before .before .before .rule-at in
+    let kept = kept-read (a .size .states) t (w .q) (k .rule (a .r)) (k .next (step (a .r) (a .v)) (w .q)) (rule .ensures) (c .before .before .next-state .ensures .0) (c .before .next-kept .ensures) in
+    stop p (w .q) kept (a .size .states) (search needs) (c .if2 .taken)
 
 add-q : tie.Need-add-q Inv-loop μ-loop
 add-q c = search needs
