@@ -9,25 +9,25 @@ use lib.Dec.{lit<, eqb, eqb-suc-suc, eqb-zero-suc, eqb-suc-zero}
 use lib.Pow.{pow-lt}
 use lib.Bits.{bit_or}
 use Rattle.bits.specs.Bit.{odd, bit, word}
-use Rattle.bits.proofs.Bit.{bit-or, bit-zero, bit-lower, bit-upper, bit_past, two_pos}
+use Rattle.bits.proofs.Bit.{bit_or_lem, bit_zero, bit_lower, bit_upper, bit_past, two_pos}
 
-pub bit-pow : (k i : ℕ) → bit (2 ^ k) i ≡ eqb k i
+pub bit_pow : (k i : ℕ) → bit (2 ^ k) i ≡ eqb k i
 unfolding bit
-bit-pow zero zero = refl
-bit-pow zero (suc i) = bit-zero i ∙ sym (eqb-zero-suc i)
-bit-pow (suc k) zero = ap odd (pow-suc 2 k) ∙ ap (λ n. eqb n 1) (mul-mod_left (2 ^ k) 2) ∙ sym (eqb-suc-zero k)
-bit-pow (suc k) (suc i) = ap (λ n. bit (n / 2) i) (pow-suc 2 k) ∙ ap (λ n. bit n i) (mul-div_cancel (2 ^ k) two_pos) ∙ bit-pow k i ∙ sym (eqb-suc-suc k i)
+bit_pow zero zero = refl
+bit_pow zero (suc i) = bit_zero i ∙ sym (eqb-zero-suc i)
+bit_pow (suc k) zero = ap odd (pow-suc 2 k) ∙ ap (λ n. eqb n 1) (mul-mod_left (2 ^ k) 2) ∙ sym (eqb-suc-zero k)
+bit_pow (suc k) (suc i) = ap (λ n. bit (n / 2) i) (pow-suc 2 k) ∙ ap (λ n. bit n i) (mul-div_cancel (2 ^ k) two_pos) ∙ bit_pow k i ∙ sym (eqb-suc-suc k i)
 
 -- `1 << k`, in a word of n bits
 pub one_shifted : (n k : ℕ) → k < n → (1 * 2 ^ k) % 2 ^ n ≡ 2 ^ k
 one_shifted n k h = ap (λ m. m % 2 ^ n) (mul_comm 1 (2 ^ k) ∙ mul-one (2 ^ k)) ∙ mod-eq_of_lt (pow-lt h)
 
 -- `x | 1 << k`
-pub bit-set : (x n k i : ℕ) → k < n → bit (bit_or x ((1 * 2 ^ k) % 2 ^ n)) i ≡ bit x i || eqb k i
-bit-set x n k i h = bit-or x ((1 * 2 ^ k) % 2 ^ n) i ∙ ap (λ b. bit x i || b) (ap (λ m. bit m i) (one_shifted n k h) ∙ bit-pow k i)
+pub bit_set : (x n k i : ℕ) → k < n → bit (bit_or x ((1 * 2 ^ k) % 2 ^ n)) i ≡ bit x i || eqb k i
+bit_set x n k i h = bit_or_lem x ((1 * 2 ^ k) % 2 ^ n) i ∙ ap (λ b. bit x i || b) (ap (λ m. bit m i) (one_shifted n k h) ∙ bit_pow k i)
 
-one-times : (n : ℕ) → 2 ^ n ≡ 1 * 2 ^ n
-one-times n = sym (mul_comm 1 (2 ^ n) ∙ mul-one (2 ^ n))
+one_times : (n : ℕ) → 2 ^ n ≡ 1 * 2 ^ n
+one_times n = sym (mul_comm 1 (2 ^ n) ∙ mul-one (2 ^ n))
 
 -- the bits of a word
 pub word_lt : (n : ℕ) (f : ℕ → Bool) → word n f < 2 ^ n
@@ -46,7 +46,7 @@ bit_word (suc n) f i h = go (bit_word n f i) (f n) refl (ℕ_discrete i n)
   where
     go : (i < n → bit (word n f) i ≡ f i) → (b : Bool) → f n ≡ b → Dec (i ≡ n) → bit (cond b (2 ^ n) 0 + word n f) i ≡ f i
     go k true e (yes r) =
-        ap₂ (λ m j. bit (m + word n f) j) (one-times n) (r ∙ sym (zero-add n)) ∙ bit-upper 1 (word n f) n 0 (word_lt n f) ∙ sym (ap f r ∙ e)
+        ap₂ (λ m j. bit (m + word n f) j) (one_times n) (r ∙ sym (zero-add n)) ∙ bit_upper 1 (word n f) n 0 (word_lt n f) ∙ sym (ap f r ∙ e)
     go k false e (yes r) = ap₂ bit (zero-add (word n f)) r ∙ bit_past (word n f) n n (word_lt n f) (omega arith) ∙ sym (ap f r ∙ e)
-    go k true e (no r) = ap (λ m. bit (m + word n f) i) (one-times n) ∙ bit-lower 1 (word n f) n i (word_lt n f) (omega arith) ∙ k (omega arith)
+    go k true e (no r) = ap (λ m. bit (m + word n f) i) (one_times n) ∙ bit_lower 1 (word n f) n i (word_lt n f) (omega arith) ∙ k (omega arith)
     go k false e (no r) = ap (λ m. bit m i) (zero-add (word n f)) ∙ k (omega arith)

@@ -13,7 +13,7 @@ use lib.Pow.{pow_pos}
 use Rattle.product.proofs.Lists.{and_left, and_right, both, or_left, or_right, or_cases, same_truth}
 use Rattle.bits.specs.Bit.{bit}
 use Rattle.bits.specs.Matrix.{some}
-use Rattle.bits.proofs.Bit.{bit-zero, bit_past, bit-ext}
+use Rattle.bits.proofs.Bit.{bit_zero, bit_past, bit_ext}
 use Rattle.bits.proofs.Lowest.{lowest, lowest_set, cleared}
 
 -- some number below n
@@ -35,15 +35,15 @@ of_some (suc n) f t = go (of_some n f) (or_cases (some n f) (f n) t)
 
 -- the lowest of a set, and the others
 module _ (d : ℕ) (pos : 0 < d) (small : d < 2 ^ 64) (f : ℕ → Bool) where
-  pub lowest-lt : lowest d < 64
-  lowest-lt = go (dec_lt (lowest d) 64)
+  pub lowest_lt : lowest d < 64
+  lowest_lt = go (dec_lt (lowest d) 64)
     where
       go : Dec (lowest d < 64) → lowest d < 64
       go (yes h) = h
       go (no h) = absurd (subst T (bit_past d 64 (lowest d) small (omega arith)) (lowest_set 64 d pos small))
 
-  pub some-lowest : some 64 (λ j. bit d j && f j) ≡ f (lowest d) || some 64 (λ j. bit (bit_and d (d - 1)) j && f j)
-  some-lowest = same_truth (some 64 (λ j. bit d j && f j)) (f (lowest d) || some 64 (λ j. bit (bit_and d (d - 1)) j && f j)) to from
+  pub some_lowest : some 64 (λ j. bit d j && f j) ≡ f (lowest d) || some 64 (λ j. bit (bit_and d (d - 1)) j && f j)
+  some_lowest = same_truth (some 64 (λ j. bit d j && f j)) (f (lowest d) || some 64 (λ j. bit (bit_and d (d - 1)) j && f j)) to from
     where
       to : T (some 64 (λ j. bit d j && f j)) → T (f (lowest d) || some 64 (λ j. bit (bit_and d (d - 1)) j && f j))
       to t = let (j, h, u) = of_some 64 (λ j. bit d j && f j) t in go j h u (ℕ_discrete j (lowest d))
@@ -61,7 +61,7 @@ module _ (d : ℕ) (pos : 0 < d) (small : d < 2 ^ 64) (f : ℕ → Bool) where
       from t = go (or_cases (f (lowest d)) (some 64 (λ j. bit (bit_and d (d - 1)) j && f j)) t)
         where
           go : T (f (lowest d)) ⊎ T (some 64 (λ j. bit (bit_and d (d - 1)) j && f j)) → T (some 64 (λ j. bit d j && f j))
-          go (inl t) = some_of 64 (λ j. bit d j && f j) (lowest d) lowest-lt (both (bit d (lowest d)) (f (lowest d)) (lowest_set 64 d pos small) t)
+          go (inl t) = some_of 64 (λ j. bit d j && f j) (lowest d) lowest_lt (both (bit d (lowest d)) (f (lowest d)) (lowest_set 64 d pos small) t)
           go (inr t) =
               let (j, h, u) = of_some 64 (λ j. bit (bit_and d (d - 1)) j && f j) t in
               some_of 64 (λ j. bit d j && f j) j h
@@ -69,24 +69,24 @@ module _ (d : ℕ) (pos : 0 < d) (small : d < 2 ^ 64) (f : ℕ → Bool) where
               (and_left (bit d j) (not (eqb j (lowest d))) (subst T (cleared 64 d j pos small) (and_left (bit (bit_and d (d - 1)) j) (f j) u)))
               (and_right (bit (bit_and d (d - 1)) j) (f j) u))
 
-pub some-none : (n : ℕ) (f : ℕ → Bool) → some n (λ j. bit 0 j && f j) ≡ false
-some-none zero f = refl
-some-none (suc n) f = rw (some-none n f, bit-zero n)
+pub some_none : (n : ℕ) (f : ℕ → Bool) → some n (λ j. bit 0 j && f j) ≡ false
+some_none zero f = refl
+some_none (suc n) f = rw (some_none n f, bit_zero n)
 
 pub low64 : (d : ℕ) → 0 < d → d < 2 ^ 64 → lowest d < 64
-low64 d p h = lowest-lt d p h (λ _. true)
+low64 d p h = lowest_lt d p h (λ _. true)
 
 -- a number that is not 0 has a bit
-pub below-pow : (n : ℕ) → n < 2 ^ n
-below-pow zero = zero-lt-suc 0
-below-pow (suc n) = omega (arith, below-pow n, pow-suc 2 n)
+pub below_pow : (n : ℕ) → n < 2 ^ n
+below_pow zero = zero-lt-suc 0
+below_pow (suc n) = omega (arith, below_pow n, pow-suc 2 n)
 
-pub has-bit : (d : ℕ) → (d ≡ 0 → ⊥) → (i : ℕ) × T (bit d i)
-has-bit d k = go (some d (bit d)) refl
+pub has_bit : (d : ℕ) → (d ≡ 0 → ⊥) → (i : ℕ) × T (bit d i)
+has_bit d k = go (some d (bit d)) refl
   where
     go : (b : Bool) → some d (bit d) ≡ b → (i : ℕ) × T (bit d i)
     go true x = let (i, _, t) = of_some d (bit d) (rw x tt) in (i, t)
-    go false x = absurd (k (bit-ext d d 0 (below-pow d) (pow_pos d) (λ i l. at i l (bit d i) refl ∙ sym (bit-zero i))))
+    go false x = absurd (k (bit_ext d d 0 (below_pow d) (pow_pos d) (λ i l. at i l (bit d i) refl ∙ sym (bit_zero i))))
       where
         at : (i : ℕ) → i < d → (b : Bool) → bit d i ≡ b → bit d i ≡ false
         at i l false y = y

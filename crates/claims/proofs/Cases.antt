@@ -4,17 +4,17 @@ use mathlib.Core.Path.{◌≡◌, refl}
 use Rattle.product.specs.Lists.{each, all}
 use Rattle.product.specs.Runs.{step}
 use Rattle.product.specs.Rounds.{grown}
-use Rattle.product.specs.Verdict.{violated, adds, answerFrom, answer}
+use Rattle.product.specs.Verdict.{violated, adds, answer_from, answer}
 use Rattle.product.specs.Trace.{trace}
-use Rattle.product.specs.Replay.{replayFrom, replay}
+use Rattle.product.specs.Replay.{replay_from, replay}
 use Rattle.product.specs.Check.{checked}
 use Rattle.model.specs.Valid.{valid}
 use Rattle.model.specs.Cases.{cases, models}
 
-pub cases-hold : each cases (λ c. c.given) ≡ each cases (λ c. c.said)
-unfolding cases grown violated adds answerFrom answer trace step replayFrom replay checked
-cases-hold = refl
+pub cases_hold : each cases (λ c. c.given) ≡ each cases (λ c. c.said)
+unfolding cases grown violated adds answer_from answer trace step replay_from replay checked
+cases_hold = refl
 
-pub models-valid : all valid models ≡ true
+pub models_valid : all valid models ≡ true
 unfolding models valid
-models-valid = refl
+models_valid = refl

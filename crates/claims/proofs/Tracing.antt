@@ -15,90 +15,90 @@ use Rattle.product.specs.Product.{Product, Step, stored, loaded, InRange}
 use Rattle.product.specs.Runs.{State, Run, Reaches}
 use Rattle.product.specs.Verdict.{Verdict, violation, safe}
 use Rattle.product.specs.Verdict as product
-use Rattle.product.specs.Trace.{traceOf}
+use Rattle.product.specs.Trace.{trace_of}
 use Rattle.product.specs.Table.{left}
-use Rattle.table.specs.Cells.{headsOf, triplesOf}
-use Rattle.product.proofs.Lists.{length-each}
-use Rattle.product.proofs.Closed.{step-elim}
-use Rattle.product.proofs.Demands.{demands, loaded-stored}
+use Rattle.table.specs.Cells.{heads_of, triples_of}
+use Rattle.product.proofs.Lists.{length_each}
+use Rattle.product.proofs.Closed.{step_elim}
+use Rattle.product.proofs.Demands.{demands, loaded_stored}
 use Rattle.model.specs.declared.Model.{Model}
-use Rattle.model.specs.Model.{productOf}
-use Rattle.model.proofs.Valid.{valid-sizes, product-in}
-use Rattle.fitting.specs.Fits.{headsOf as headCount, triplesOf as tripleCount, Fits}
-use Rattle.fitting.proofs.Tested.{tested-well, guarded-by, tested-same}
-use Rattle.decide.specs.Decided.{within, decision, headsLeft, triplesLeft}
+use Rattle.model.specs.Model.{product_of}
+use Rattle.model.proofs.Valid.{valid_sizes, product_in_lem}
+use Rattle.fitting.specs.Fits.{heads_of as head_count, triples_of as triple_count, Fits}
+use Rattle.fitting.proofs.Tested.{tested_well, guarded_by, tested_same}
+use Rattle.decide.specs.Decided.{within, decision, heads_left, triples_left}
 use Rattle.trace.specs.declared.Traced.{Traced}
 use Rattle.trace.specs.declared.Traced.TheVariants.{Found, Spent, Cut}
-use Rattle.trace.specs.Outcome.{traced, meaning, tracedBy, stepsBy, Outcome}
-use Rattle.trace.proofs.Outcome.{Answered, answered-by, outcome-one}
-use Rattle.replay.proofs.Outcomes.{accepted-is}
+use Rattle.trace.specs.Outcome.{traced, meaning, traced_by, steps_by, Outcome}
+use Rattle.trace.proofs.Outcome.{Answered, answered_by, outcome_one}
+use Rattle.replay.proofs.Outcomes.{accepted_is}
 use Rattle.claims.specs.Tracing.{Tracing, Replaying}
 
 pub replaying : Replaying
-replaying m steps stack stack' h = let (_, _, (c, r)) = (accepted-is m steps stack h).0 refl in (each steps loaded, c, r)
+replaying m steps stack stack' h = let (_, _, (c, r)) = (accepted_is m steps stack h).0 refl in (each steps loaded, c, r)
 
 -- the moves of a run are numbers of the product's moves
-run-moves : (p : Product) → InRange p → (ss : List Step) (c d : State) → Run p c ss d → All (λ s. s.by_move < p.moves) ss
-run-moves p R [] c d e = tt
-run-moves p R (s ∷ ss) c d (b, e, run) =
-    (step-elim p s (λ _ _. s.by_move < p.moves) (λ q q' w i. (R.steps-in s q q' i).1) c b e, run-moves p R ss b d run)
+run_moves : (p : Product) → InRange p → (ss : List Step) (c d : State) → Run p c ss d → All (λ s. s.by_move < p.moves) ss
+run_moves p R [] c d e = tt
+run_moves p R (s ∷ ss) c d (b, e, run) =
+    (step_elim p s (λ _ _. s.by_move < p.moves) (λ q q' w i. (R.steps_in s q q' i).1) c b e, run_moves p R ss b d run)
 
 -- stored and loaded again
 back : (ss : List Step) (k : ℕ) → k ≤ 128 → All (λ s. s.by_move < k) ss → each (each ss stored) loaded ≡ ss
 back [] k l h = refl
-back (s ∷ ss) k l (i, h) = ap₂ ◌∷◌ (loaded-stored s (omega arith)) (back ss k l h)
+back (s ∷ ss) k l (i, h) = ap₂ ◌∷◌ (loaded_stored s (omega arith)) (back ss k l h)
 
 -- what stands in a room after a run of numbers: all of them, or as many as it has cells
-sets-front : (l xs : List ℕ) → length xs ≤ length l → take (length xs) (sets l 0 xs) ≡ xs
-sets-front l xs h = rw (sets-eq xs l 0 (omega arith)) (take_at xs (drop (0 + length xs) l) (length xs) refl)
+sets_front : (l xs : List ℕ) → length xs ≤ length l → take (length xs) (sets l 0 xs) ≡ xs
+sets_front l xs h = rw (sets-eq xs l 0 (omega arith)) (take_at xs (drop (0 + length xs) l) (length xs) refl)
 
-sets-past : (l : List ℕ) (i : ℕ) (x y : ℕ) (xs : List ℕ) → sets (y ∷ l) (suc i) xs ≡ y ∷ sets l i xs
-sets-past l i x y [] = refl
-sets-past l i x y (z ∷ xs) = sets-past (set l i z) (suc i) x y xs
+sets_past : (l : List ℕ) (i : ℕ) (x y : ℕ) (xs : List ℕ) → sets (y ∷ l) (suc i) xs ≡ y ∷ sets l i xs
+sets_past l i x y [] = refl
+sets_past l i x y (z ∷ xs) = sets_past (set l i z) (suc i) x y xs
 
-sets-full : (l xs : List ℕ) → length l ≤ length xs → sets l 0 xs ≡ take (length l) xs
-sets-full [] xs h = none-there xs 0
+sets_full : (l xs : List ℕ) → length l ≤ length xs → sets l 0 xs ≡ take (length l) xs
+sets_full [] xs h = none_there xs 0
   where
-    none-there : (xs : List ℕ) (i : ℕ) → sets [] i xs ≡ []
-    none-there [] i = refl
-    none-there (x ∷ xs) i = none-there xs (suc i)
-sets-full (y ∷ l) (x ∷ xs) h = sets-past l 0 x x xs ∙ ap (λ l. x ∷ l) (sets-full l xs (omega arith))
+    none_there : (xs : List ℕ) (i : ℕ) → sets [] i xs ≡ []
+    none_there [] i = refl
+    none_there (x ∷ xs) i = none_there xs (suc i)
+sets_full (y ∷ l) (x ∷ xs) h = sets_past l 0 x x xs ∙ ap (λ l. x ∷ l) (sets_full l xs (omega arith))
 
 -- the trace of a violation comes only from a verdict of the decision
 module _ (m : Model) (room : ℕ) where
-  found-by : (n k : ℕ) (a : Answer Verdict) → answered (traced n k) ≡ tracedBy m room a → (a ≡ answered (violation n)) × (k ≡ length (traceOf (productOf m) (violation n))) × (k ≤ room)
-  found-by n k (answered (violation i)) e = go (leb (length (traceOf (productOf m) (violation i))) room) refl e
+  found_by : (n k : ℕ) (a : Answer Verdict) → answered (traced n k) ≡ traced_by m room a → (a ≡ answered (violation n)) × (k ≡ length (trace_of (product_of m) (violation n))) × (k ≤ room)
+  found_by n k (answered (violation i)) e = go (leb (length (trace_of (product_of m) (violation i))) room) refl e
     where
-      go : (b : Bool) → leb (length (traceOf (productOf m) (violation i))) room ≡ b → answered (traced n k) ≡ cond b (answered (traced i (length (traceOf (productOf m) (violation i))))) (refused 10 (i ∷ room ∷ []))
-          → (answered (violation i) ≡ answered (violation n)) × (k ≡ length (traceOf (productOf m) (violation n))) × (k ≤ room)
+      go : (b : Bool) → leb (length (trace_of (product_of m) (violation i))) room ≡ b → answered (traced n k) ≡ cond b (answered (traced i (length (trace_of (product_of m) (violation i))))) (refused 10 (i ∷ room ∷ []))
+          → (answered (violation i) ≡ answered (violation n)) × (k ≡ length (trace_of (product_of m) (violation n))) × (k ≤ room)
       go true x e =
           let j : i ≡ n = cc in
-          let l : k ≡ length (traceOf (productOf m) (violation i)) = cc in
-          (ap (λ i. answered (violation i)) j, l ∙ ap (λ i. length (traceOf (productOf m) (violation i))) j, omega (arith, leb-true (length (traceOf (productOf m) (violation i))) room x))
+          let l : k ≡ length (trace_of (product_of m) (violation i)) = cc in
+          (ap (λ i. answered (violation i)) j, l ∙ ap (λ i. length (trace_of (product_of m) (violation i))) j, omega (arith, leb-true (length (trace_of (product_of m) (violation i))) room x))
       go false x e = let z : ◌≡◌ {A = ℕ} 0 1 = cc in absurd (omega arith)
-  found-by n k (answered (safe i)) e = let z : ◌≡◌ {A = ℕ} 0 1 = cc in absurd (omega arith)
-  found-by n k (refused i vs) e = let z : ◌≡◌ {A = ℕ} 0 1 = cc in absurd (omega arith)
+  found_by n k (answered (safe i)) e = let z : ◌≡◌ {A = ℕ} 0 1 = cc in absurd (omega arith)
+  found_by n k (refused i vs) e = let z : ◌≡◌ {A = ℕ} 0 1 = cc in absurd (omega arith)
 
-  cut_by : (n k : ℕ) (a : Answer Verdict) → refused 10 (n ∷ k ∷ []) ≡ tracedBy m room a → ((b : ℕ) (vs : List ℕ) → a ≡ refused b vs → b ≡ 10 → ⊥)
-      → (a ≡ answered (violation n)) × (room ≤ length (traceOf (productOf m) (violation n)))
-  cut_by n k (answered (violation i)) e h = go (leb (length (traceOf (productOf m) (violation i))) room) refl e
+  cut_by : (n k : ℕ) (a : Answer Verdict) → refused 10 (n ∷ k ∷ []) ≡ traced_by m room a → ((b : ℕ) (vs : List ℕ) → a ≡ refused b vs → b ≡ 10 → ⊥)
+      → (a ≡ answered (violation n)) × (room ≤ length (trace_of (product_of m) (violation n)))
+  cut_by n k (answered (violation i)) e h = go (leb (length (trace_of (product_of m) (violation i))) room) refl e
     where
-      go : (b : Bool) → leb (length (traceOf (productOf m) (violation i))) room ≡ b → refused 10 (n ∷ k ∷ []) ≡ cond b (answered (traced i (length (traceOf (productOf m) (violation i))))) (refused 10 (i ∷ room ∷ []))
-          → (answered (violation i) ≡ answered (violation n)) × (room ≤ length (traceOf (productOf m) (violation n)))
+      go : (b : Bool) → leb (length (trace_of (product_of m) (violation i))) room ≡ b → refused 10 (n ∷ k ∷ []) ≡ cond b (answered (traced i (length (trace_of (product_of m) (violation i))))) (refused 10 (i ∷ room ∷ []))
+          → (answered (violation i) ≡ answered (violation n)) × (room ≤ length (trace_of (product_of m) (violation n)))
       go true x e = let z : ◌≡◌ {A = ℕ} 0 1 = cc in absurd (omega arith)
       go false x e =
           let j : i ≡ n = cc in
-          (ap (λ i. answered (violation i)) j, subst (λ i. room ≤ length (traceOf (productOf m) (violation i))) j (omega (arith, leb-false (length (traceOf (productOf m) (violation i))) room x)))
+          (ap (λ i. answered (violation i)) j, subst (λ i. room ≤ length (trace_of (product_of m) (violation i))) j (omega (arith, leb-false (length (trace_of (product_of m) (violation i))) room x)))
   cut_by n k (answered (safe i)) e h = let z : ◌≡◌ {A = ℕ} 9 10 = cc in absurd (omega arith)
   cut_by n k (refused i vs) e h = let z : 10 ≡ i = cc in absurd (h i vs refl (sym z))
 
 -- the decision's own refusals are 6, 7 and 8
 module _ (m : Model) (budget h t : ℕ) where
-  its-refusals : (b : ℕ) (vs : List ℕ) → decision m budget h t ≡ refused b vs → b ≡ 10 → ⊥
+  its_refusals : (b : ℕ) (vs : List ℕ) → decision m budget h t ≡ refused b vs → b ≡ 10 → ⊥
   unfolding decision
-  its-refusals b vs e i =
-      let (_, k) = guarded-by m h t (within budget (product.answer (productOf m) budget)) (refused b vs) (sym e) (λ w. let z : b ≡ 6 = cc in omega arith) (λ w. let z : b ≡ 7 = cc in omega arith) in
-      go (product.answer (productOf m) budget) k
+  its_refusals b vs e i =
+      let (_, k) = guarded_by m h t (within budget (product.answer (product_of m) budget)) (refused b vs) (sym e) (λ w. let z : b ≡ 6 = cc in omega arith) (λ w. let z : b ≡ 7 = cc in omega arith) in
+      go (product.answer (product_of m) budget) k
     where
       go : (o : Option Verdict) → refused b vs ≡ within budget o → ⊥
       go none e = let z : b ≡ 8 = cc in omega arith
@@ -106,100 +106,100 @@ module _ (m : Model) (budget h t : ℕ) where
 
   -- where the budget is not spent, a larger one gives the same answer
   module _ (more : ℕ) (l : budget ≤ more) (unspent : decision m budget h t ≡ refused 8 (budget ∷ []) → ⊥) where
-    more-gives : Fits m h t → (within more (product.answer (productOf m) more) ≡ within budget (product.answer (productOf m) budget)) × (left (productOf m) more ≡ left (productOf m) budget)
+    more_gives : Fits m h t → (within more (product.answer (product_of m) more) ≡ within budget (product.answer (product_of m) budget)) × (left (product_of m) more ≡ left (product_of m) budget)
     unfolding decision
-    more-gives f = go (product.answer (productOf m) budget) refl
+    more_gives f = go (product.answer (product_of m) budget) refl
       where
-        go : (o : Option Verdict) → product.answer (productOf m) budget ≡ o
-            → (within more (product.answer (productOf m) more) ≡ within budget (product.answer (productOf m) budget)) × (left (productOf m) more ≡ left (productOf m) budget)
-        go none e = absurd (unspent (tested-well m h t f _ _ _ ∙ ap (within budget) e))
+        go : (o : Option Verdict) → product.answer (product_of m) budget ≡ o
+            → (within more (product.answer (product_of m) more) ≡ within budget (product.answer (product_of m) budget)) × (left (product_of m) more ≡ left (product_of m) budget)
+        go none e = absurd (unspent (tested_well m h t f _ _ _ ∙ ap (within budget) e))
         go (some v) e =
-            let (a, b) = (demands (productOf m) (product-in m f.valid-model)).answer-more budget more v e l in
+            let (a, b) = (demands (product_of m) (product_in_lem m f.valid_model)).answer_more budget more v e l in
             (ap (within more) a ∙ sym (ap (within budget) e), b)
 
-    same-decision : decision m more h t ≡ decision m budget h t
+    same_decision : decision m more h t ≡ decision m budget h t
     unfolding decision
-    same-decision = tested-same m h t _ _ _ _ (λ f. (more-gives f).0)
+    same_decision = tested_same m h t _ _ _ _ (λ f. (more_gives f).0)
 
-    same_left : Fits m h t → left (productOf m) more ≡ left (productOf m) budget
-    same_left f = (more-gives f).1
+    same_left : Fits m h t → left (product_of m) more ≡ left (product_of m) budget
+    same_left f = (more_gives f).1
 
 module _ {m : Model} {budget : ℕ} {hs ts room : List ℕ} {r : Traced} {hs' ts' room' : List ℕ} (O : Outcome m budget hs ts room r hs' ts' room') where
   abbrev said : Answer Verdict
   said = decision m budget (length hs) (length ts)
 
   abbrev steps : ℕ → List Step
-  steps n = traceOf (productOf m) (violation n)
+  steps n = trace_of (product_of m) (violation n)
 
   -- a violation was answered: its trace is a run to a final state, and is what was written
   module _ (n : ℕ) (x : said ≡ answered (violation n)) where
     A : Answered m budget (length hs) (length ts) (violation n)
-    A = answered-by m budget (length hs) (length ts) (violation n) (sym x)
+    A = answered_by m budget (length hs) (length ts) (violation n) (sym x)
 
-    R : InRange (productOf m)
-    R = product-in m A.fits.valid-model
+    R : InRange (product_of m)
+    R = product_in_lem m A.fits.valid_model
 
-    reaches : (c : State) × Reaches (productOf m) (steps n) c
-    reaches = (demands (productOf m) R).trace-reaches n ((demands (productOf m) R).answer-verdict budget (violation n) A.verdict-is).0
+    reaches : (c : State) × Reaches (product_of m) (steps n) c
+    reaches = (demands (product_of m) R).trace_reaches n ((demands (product_of m) R).answer_verdict budget (violation n) A.verdict_is).0
 
     written : room' ≡ sets room 0 (each (steps n) stored)
-    written = O.steps ∙ ap (λ a. sets room 0 (stepsBy m a)) x
+    written = O.steps ∙ ap (λ a. sets room 0 (steps_by m a)) x
 
     module _ (k : ℕ) (y : k ≡ length (steps n)) (z : k ≤ length room) where
       front : take k room' ≡ each (steps n) stored
       front =
-          let e : k ≡ length (each (steps n) stored) = y ∙ sym (length-each (steps n) stored) in
-          rw (written, e) (sets-front room (each (steps n) stored) (omega (arith, e)))
+          let e : k ≡ length (each (steps n) stored) = y ∙ sym (length_each (steps n) stored) in
+          rw (written, e) (sets_front room (each (steps n) stored) (omega (arith, e)))
 
       again : each (take k room') loaded ≡ steps n
       again =
           let (c, (run, _)) = reaches in
-          ap (λ xs. each xs loaded) front ∙ back (steps n) m.moves (valid-sizes m A.fits.valid-model).moves (run-moves (productOf m) R (steps n) _ c run)
+          ap (λ xs. each xs loaded) front ∙ back (steps n) m.moves (valid_sizes m A.fits.valid_model).moves (run_moves (product_of m) R (steps n) _ c run)
 
-      as-run : (c : State) × Reaches (productOf m) (each (take k room') loaded) c
-      as-run = subst⁻¹ (λ ss. (c : State) × Reaches (productOf m) ss c) again reaches
+      as_run : (c : State) × Reaches (product_of m) (each (take k room') loaded) c
+      as_run = subst⁻¹ (λ ss. (c : State) × Reaches (product_of m) ss c) again reaches
 
       as_many : length (take k room') ≡ k
-      as_many = ap length front ∙ length-each (steps n) stored ∙ sym y
+      as_many = ap length front ∙ length_each (steps n) stored ∙ sym y
 
   -- which answers tell of a violation
   found : (n k : ℕ) → r ≡ Found n k → (said ≡ answered (violation n)) × (k ≡ length (steps n)) × (k ≤ length room)
-  found n k e = found-by m (length room) n k said (sym (ap meaning e) ∙ O.answer)
+  found n k e = found_by m (length room) n k said (sym (ap meaning e) ∙ O.answer)
 
-  cut-begins : (n k : ℕ) → r ≡ Cut n k → room' ≡ take (length room) (each (steps n) stored)
-  cut-begins n k e =
-      let (x, y) = cut_by m (length room) n k said (sym (ap meaning e) ∙ O.answer) (its-refusals m budget (length hs) (length ts)) in
-      written n x ∙ sets-full room (each (steps n) stored) (omega (arith, length-each (steps n) stored))
+  cut_begins : (n k : ℕ) → r ≡ Cut n k → room' ≡ take (length room) (each (steps n) stored)
+  cut_begins n k e =
+      let (x, y) = cut_by m (length room) n k said (sym (ap meaning e) ∙ O.answer) (its_refusals m budget (length hs) (length ts)) in
+      written n x ∙ sets_full room (each (steps n) stored) (omega (arith, length_each (steps n) stored))
 
   spent : said ≡ refused 8 (budget ∷ []) → r ≡ Spent budget
-  spent e = (outcome-one m budget hs ts room r (Spent budget) hs' hs' ts' ts' room' room' O
-      (record { answer = sym (ap (tracedBy m (length room)) e); heads = O.heads; triples = O.triples; steps = O.steps })).0
+  spent e = (outcome_one m budget hs ts room r (Spent budget) hs' hs' ts' ts' room' room' O
+      (record { answer = sym (ap (traced_by m (length room)) e); heads = O.heads; triples = O.triples; steps = O.steps })).0
 
   module _ (more : ℕ) (l : budget ≤ more) (unspent : (b : ℕ) → r ≡ Spent b → ⊥) where
-    not-spent : said ≡ refused 8 (budget ∷ []) → ⊥
-    not-spent e = unspent budget (spent e)
+    not_spent : said ≡ refused 8 (budget ∷ []) → ⊥
+    not_spent e = unspent budget (spent e)
 
-    same-said : decision m more (length hs) (length ts) ≡ said
-    same-said = same-decision m budget (length hs) (length ts) more l not-spent
+    same_said : decision m more (length hs) (length ts) ≡ said
+    same_said = same_decision m budget (length hs) (length ts) more l not_spent
 
-    as-more : Outcome m more hs ts room r hs' ts' room'
-    unfolding headsLeft triplesLeft
-    as-more = record {
-      answer = O.answer ∙ ap (tracedBy m (length room)) (sym same-said);
-      heads = O.heads ∙ tested-same m (length hs) (length ts) _ _ _ _ (λ f. ap (λ t. headsOf m.symbols m.states t ++ drop (headCount m) hs) (sym (same f)));
-      triples = O.triples ∙ tested-same m (length hs) (length ts) _ _ _ _ (λ f. ap (λ t. triplesOf m.symbols m.states t ++ drop (tripleCount m) ts) (sym (same f)));
-      steps = O.steps ∙ ap (λ a. sets room 0 (stepsBy m a)) (sym same-said);
+    as_more : Outcome m more hs ts room r hs' ts' room'
+    unfolding heads_left triples_left
+    as_more = record {
+      answer = O.answer ∙ ap (traced_by m (length room)) (sym same_said);
+      heads = O.heads ∙ tested_same m (length hs) (length ts) _ _ _ _ (λ f. ap (λ t. heads_of m.symbols m.states t ++ drop (head_count m) hs) (sym (same f)));
+      triples = O.triples ∙ tested_same m (length hs) (length ts) _ _ _ _ (λ f. ap (λ t. triples_of m.symbols m.states t ++ drop (triple_count m) ts) (sym (same f)));
+      steps = O.steps ∙ ap (λ a. sets room 0 (steps_by m a)) (sym same_said);
     }
       where
-        same : Fits m (length hs) (length ts) → left (productOf m) more ≡ left (productOf m) budget
-        same = same_left m budget (length hs) (length ts) more l not-spent
+        same : Fits m (length hs) (length ts) → left (product_of m) more ≡ left (product_of m) budget
+        same = same_left m budget (length hs) (length ts) more l not_spent
 
   pub tracing : Tracing m budget hs ts room r hs' ts' room'
   tracing = record {
-    fits-reaches = λ n k e. let (x, y, z) = found n k e in as-run n x k y z;
-    fits-replays = λ n k e stack stack' a h l.
+    fits_reaches = λ n k e. let (x, y, z) = found n k e in as_run n x k y z;
+    fits_replays = λ n k e stack stack' a h l.
         let (x, y, z) = found n k e in
-        (accepted-is m (take k room') stack h).1 ((A n x).fits.valid-model, omega (arith, as_many n x k y z), as-run n x k y z);
-    cut-begins = cut-begins;
-    same_more = λ more l u r' hs'' ts'' room'' O'. outcome-one m more hs ts room r' r hs'' hs' ts'' ts' room'' room' O' (as-more more l u);
+        (accepted_is m (take k room') stack h).1 ((A n x).fits.valid_model, omega (arith, as_many n x k y z), as_run n x k y z);
+    cut_begins = cut_begins;
+    same_more = λ more l u r' hs'' ts'' room'' O'. outcome_one m more hs ts room r' r hs'' hs' ts'' ts' room'' room' O' (as_more more l u);
   }

@@ -6,7 +6,7 @@ use Rattle.product.specs.Why.{Why}
 use Rattle.product.specs.Verdict.{violating, Verdict, rounds, bound}
 use Rattle.product.specs.Demands.{Violates}
 use Rattle.model.specs.declared.Model.{Model}
-use Rattle.model.specs.Model.{productOf}
+use Rattle.model.specs.Model.{product_of}
 use Rattle.decide.specs.declared.Decision.{Decision}
 use Rattle.decide.specs.declared.Decision.TheVariants.{Violation, Safe, Spent}
 use Rattle.decide.specs.Decided.{meaning, Decided}
@@ -15,12 +15,12 @@ use Rattle.recheck.specs.Recheck.{recheck}
 -- the call was made with this budget, answered r, and left these arrays; the other call likewise
 pub record Deciding (m : Model) (hs ts : List ℕ) : Type 0 where
   -- Demand 2. With budget enough, violation is answered exactly if some run from the start reaches a final state, and safe exactly if none does.
-  pub violation-exactly : (budget : ℕ) → bound (productOf m) ≤ budget → (r : Decision) (hs' ts' : List ℕ) → Decided m budget hs ts r hs' ts'
-      → ((n : ℕ) × (r ≡ Violation n)) ↔ Violates (productOf m)
-  pub safe-exactly : (budget : ℕ) → bound (productOf m) ≤ budget → (r : Decision) (hs' ts' : List ℕ) → Decided m budget hs ts r hs' ts'
-      → ((n : ℕ) × (r ≡ Safe n)) ↔ (Violates (productOf m) → ⊥)
+  pub violation_exactly : (budget : ℕ) → bound (product_of m) ≤ budget → (r : Decision) (hs' ts' : List ℕ) → Decided m budget hs ts r hs' ts'
+      → ((n : ℕ) × (r ≡ Violation n)) ↔ Violates (product_of m)
+  pub safe_exactly : (budget : ℕ) → bound (product_of m) ≤ budget → (r : Decision) (hs' ts' : List ℕ) → Decided m budget hs ts r hs' ts'
+      → ((n : ℕ) × (r ≡ Safe n)) ↔ (Violates (product_of m) → ⊥)
   -- Our own safe table is accepted by the check.
-  pub safe-accepted : (budget n : ℕ) (hs' ts' : List ℕ) → Decided m budget hs ts (Safe n) hs' ts' → recheck m hs' ts' ≡ answered accepted
+  pub safe_accepted : (budget n : ℕ) (hs' ts' : List ℕ) → Decided m budget hs ts (Safe n) hs' ts' → recheck m hs' ts' ≡ answered accepted
   -- Demand 3. A verdict under one budget is the same under every larger one, the table too.
   pub same_more : (budget more : ℕ) → budget ≤ more → (r r' : Decision) (hs' hs'' ts' ts'' : List ℕ) → Decided m budget hs ts r hs' ts' → Decided m more hs ts r' hs'' ts''
       → (v : Verdict) → meaning r ≡ answered v → (r' ≡ r) × (hs'' ≡ hs') × (ts'' ≡ ts')
@@ -28,12 +28,12 @@ pub record Deciding (m : Model) (hs ts : List ℕ) : Type 0 where
   pub none_below : (budget less : ℕ) → (r r' : Decision) (hs' hs'' ts' ts'' : List ℕ) → Decided m budget hs ts r hs' ts' → Decided m less hs ts r' hs'' ts''
       → (v : Verdict) → meaning r ≡ answered v → less < rounds v → r' ≡ Spent less
   -- The budget symbols · states · (states + 1) always gives one.
-  pub always-one : (budget : ℕ) → bound (productOf m) ≤ budget → (r : Decision) (hs' ts' : List ℕ) → Decided m budget hs ts r hs' ts'
-      → (v : Verdict) × (meaning r ≡ answered v) × (rounds v ≤ bound (productOf m))
+  pub always_one : (budget : ℕ) → bound (product_of m) ≤ budget → (r : Decision) (hs' ts' : List ℕ) → Decided m budget hs ts r hs' ts'
+      → (v : Verdict) × (meaning r ≡ answered v) × (rounds v ≤ bound (product_of m))
   -- No explanation of any violating fact is shallower than the rounds reported.
-  pub no-shallower : (budget : ℕ) (r : Decision) (hs' ts' : List ℕ) → Decided m budget hs ts r hs' ts' → (v : Verdict) → meaning r ≡ answered v
-      → (f : Fact) (k : ℕ) → T (violating (productOf m) f) → Why (productOf m) f k → rounds v ≤ k
+  pub no_shallower : (budget : ℕ) (r : Decision) (hs' ts' : List ℕ) → Decided m budget hs ts r hs' ts' → (v : Verdict) → meaning r ≡ answered v
+      → (f : Fact) (k : ℕ) → T (violating (product_of m) f) → Why (product_of m) f k → rounds v ≤ k
 
 -- Any table that the check accepts, whoever made it, means that no run from the start reaches a final state.
 abbrev pub Accepting : Type 0
-Accepting = (m : Model) (hs ts : List ℕ) → recheck m hs ts ≡ answered accepted → Violates (productOf m) → ⊥
+Accepting = (m : Model) (hs ts : List ℕ) → recheck m hs ts ≡ answered accepted → Violates (product_of m) → ⊥

@@ -3,7 +3,7 @@ use Rattle.std.specs.Prelude.{List, ◌≡◌, ℕ}
 use Rattle.model.specs.declared.Model.{Model}
 use Rattle.reader.specs.declared.Reading.{Reading}
 use Rattle.reader.specs.Reading.{Read}
-use Rattle.reader.specs.Text.{readModel}
+use Rattle.reader.specs.Text.{read_model}
 use Rattle.listing.specs.declared.ListingRead.{ListingRead}
 use Rattle.listing.specs.Reading.{Reads}
 use Rattle.printing.specs.declared.Written.{Written}
@@ -19,7 +19,7 @@ use Rattle.replay.specs.Replay.{Replays}
 
 -- read_model, read_listing and write_listing; decide and check_table; trace and replay_steps
 pub record OneOutcome : Type 0 where
-  pub reading : (text : List ℕ) (r r' : Reading) (cells cells' : List ℕ) → Read (readModel text) r cells → Read (readModel text) r' cells' → (r ≡ r') × (cells ≡ cells')
+  pub reading : (text : List ℕ) (r r' : Reading) (cells cells' : List ℕ) → Read (read_model text) r cells → Read (read_model text) r' cells' → (r ≡ r') × (cells ≡ cells')
   pub listing : (m : Model) (text hs ts hs' hs'' ts' ts'' : List ℕ) (r r' : ListingRead) → Reads m text hs ts hs' ts' r → Reads m text hs ts hs'' ts'' r'
       → (r ≡ r') × (hs' ≡ hs'') × (ts' ≡ ts'')
   pub writing : (m : Model) (rounds : ℕ) (hs ts out out' out'' : List ℕ) (r r' : Written) → Writes m rounds hs ts out out' r → Writes m rounds hs ts out out'' r'

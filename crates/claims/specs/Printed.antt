@@ -5,11 +5,11 @@ use Rattle.product.specs.Lists.{each}
 use Rattle.product.specs.Product.{loaded}
 use Rattle.product.specs.Runs.{State, start, Run}
 use Rattle.model.specs.declared.Model.{Model}
-use Rattle.model.specs.Model.{productOf}
-use Rattle.violation.specs.Bytes.{stepLine, stepLines}
+use Rattle.model.specs.Model.{product_of}
+use Rattle.violation.specs.Bytes.{step_line, step_lines}
 
 abbrev pub Printed : Model → (steps : List ℕ) → Type 0
 Printed m steps =
-    let p = productOf m in
+    let p = product_of m in
     (i : ℕ) (c : State) → i < length steps → Run p (start p) (each (take (suc i) steps) loaded) c
-    → stepLines p steps (i + 1) ≡ stepLines p steps i ++ stepLine p (i + 1) (get_or steps i 0) c.0
+    → step_lines p steps (i + 1) ≡ step_lines p steps i ++ step_line p (i + 1) (get_or steps i 0) c.0

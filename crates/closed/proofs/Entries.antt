@@ -11,9 +11,9 @@ use borrow.Author.Tests.{eq-eqb}
 use Rattle.product.proofs.Lists.{and_left, and_right, both, or_left, same_truth}
 use Rattle.bits.specs.Bit.{bit}
 use Rattle.bits.specs.Matrix.{entry, mat, multiplied, passed, image}
-use Rattle.bits.proofs.Bit.{bit-or, bit_past, bit-zero, bit-ext}
-use Rattle.bits.proofs.Image.{image-at}
-use Rattle.bits.proofs.Matrix.{multiplied-at, product_lt}
+use Rattle.bits.proofs.Bit.{bit_or_lem, bit_past, bit_zero, bit_ext}
+use Rattle.bits.proofs.Image.{image_at}
+use Rattle.bits.proofs.Matrix.{multiplied_at, product_lt}
 use Rattle.bits.proofs.Some.{some_of, of_some}
 use Rattle.steps.proofs.Words.{same_bits}
 use Rattle.closed.specs.Closed.{included}
@@ -22,44 +22,44 @@ use Rattle.closed.specs.Closed.{included}
 pub row_in : (m q x : ℕ) → T (mat m q x) → q < 8
 row_in m q x t = ltb→lt q 8 (and_left (ltb q 8) (ltb x 8) (and_left (ltb q 8 && ltb x 8) (entry m q x) t))
 
-pub column-in : (m q x : ℕ) → T (mat m q x) → x < 8
-column-in m q x t = ltb→lt x 8 (and_right (ltb q 8) (ltb x 8) (and_left (ltb q 8 && ltb x 8) (entry m q x) t))
+pub column_in : (m q x : ℕ) → T (mat m q x) → x < 8
+column_in m q x t = ltb→lt x 8 (and_right (ltb q 8) (ltb x 8) (and_left (ltb q 8 && ltb x 8) (entry m q x) t))
 
 entry_of : (m q x : ℕ) → T (mat m q x) → T (entry m q x)
 entry_of m q x t = and_right (ltb q 8 && ltb x 8) (entry m q x) t
 
-mat-of : (m q x : ℕ) → q < 8 → x < 8 → T (entry m q x) → T (mat m q x)
-mat-of m q x i j t = both (ltb q 8 && ltb x 8) (entry m q x) (both (ltb q 8) (ltb x 8) (lt→ltb q 8 i) (lt→ltb x 8 j)) t
+mat_of : (m q x : ℕ) → q < 8 → x < 8 → T (entry m q x) → T (mat m q x)
+mat_of m q x i j t = both (ltb q 8 && ltb x 8) (entry m q x) (both (ltb q 8) (ltb x 8) (lt→ltb q 8 i) (lt→ltb x 8 j)) t
 
 -- of a product, by the state in the middle
 module _ (a b q x : ℕ) where
-  pub product-of : (k : ℕ) → T (mat a q k) → T (mat b k x) → T (mat (multiplied a b) q x)
-  product-of k s t =
+  pub product_of : (k : ℕ) → T (mat a q k) → T (mat b k x) → T (mat (multiplied a b) q x)
+  product_of k s t =
       let i = row_in a q k s in
-      let j = column-in b k x t in
-      mat-of (multiplied a b) q x i j (subst⁻¹ T (multiplied-at a b q x i j)
+      let j = column_in b k x t in
+      mat_of (multiplied a b) q x i j (subst⁻¹ T (multiplied_at a b q x i j)
       (some_of 8 (λ k. entry a q k && entry b k x) k (row_in b k x t) (both (entry a q k) (entry b k x) (entry_of a q k s) (entry_of b k x t))))
 
-  pub of-product : T (mat (multiplied a b) q x) → (k : ℕ) × T (mat a q k) × T (mat b k x)
-  of-product t =
+  pub of_product : T (mat (multiplied a b) q x) → (k : ℕ) × T (mat a q k) × T (mat b k x)
+  of_product t =
       let i = row_in (multiplied a b) q x t in
-      let j = column-in (multiplied a b) q x t in
-      let (k, l, u) = of_some 8 (λ k. entry a q k && entry b k x) (subst T (multiplied-at a b q x i j) (entry_of (multiplied a b) q x t)) in
-      (k, mat-of a q k i l (and_left (entry a q k) (entry b k x) u), mat-of b k x l j (and_right (entry a q k) (entry b k x) u))
+      let j = column_in (multiplied a b) q x t in
+      let (k, l, u) = of_some 8 (λ k. entry a q k && entry b k x) (subst T (multiplied_at a b q x i j) (entry_of (multiplied a b) q x t)) in
+      (k, mat_of a q k i l (and_left (entry a q k) (entry b k x) u), mat_of b k x l j (and_right (entry a q k) (entry b k x) u))
 
 -- of an image
 module _ (v b x : ℕ) where
-  pub image-of : (k : ℕ) → T (mat v 0 k) → T (mat b k x) → T (mat (image v b) 0 x)
+  pub image_of : (k : ℕ) → T (mat v 0 k) → T (mat b k x) → T (mat (image v b) 0 x)
   unfolding passed
-  image-of k s t =
-      mat-of (image v b) 0 x (lit< tt) (column-in b k x t)
-      (subst⁻¹ (λ n. T (bit (image v b) n)) (zero-add x) (subst⁻¹ T (image-at v b x)
+  image_of k s t =
+      mat_of (image v b) 0 x (lit< tt) (column_in b k x t)
+      (subst⁻¹ (λ n. T (bit (image v b) n)) (zero-add x) (subst⁻¹ T (image_at v b x)
       (some_of 8 (λ k. mat v 0 k && mat b k x) k (row_in b k x t) (both (mat v 0 k) (mat b k x) s t))))
 
   pub of_image : T (mat (image v b) 0 x) → (k : ℕ) × T (mat v 0 k) × T (mat b k x)
   unfolding passed
   of_image t =
-      let (k, _, u) = of_some 8 (λ k. mat v 0 k && mat b k x) (subst T (image-at v b x) (subst (λ n. T (bit (image v b) n)) (zero-add x) (entry_of (image v b) 0 x t))) in
+      let (k, _, u) = of_some 8 (λ k. mat v 0 k && mat b k x) (subst T (image_at v b x) (subst (λ n. T (bit (image v b) n)) (zero-add x) (entry_of (image v b) 0 x t))) in
       (k, and_left (mat v 0 k) (mat b k x) u, and_right (mat v 0 k) (mat b k x) u)
 
 -- what is in a is in b
@@ -67,28 +67,28 @@ module _ (a b : ℕ) where
   all_in : T (included a b) → (i : ℕ) → T (bit a i) → T (bit b i)
   unfolding included
   all_in t i s =
-      subst T (sym (bit-or a b i) ∙ ap (λ n. bit n i) (eqb→eq (bit_or a b) b t)) (or_left (bit a i) (bit b i) s)
+      subst T (sym (bit_or_lem a b i) ∙ ap (λ n. bit n i) (eqb→eq (bit_or a b) b t)) (or_left (bit a i) (bit b i) s)
 
   in_all : ((i : ℕ) → T (bit a i) → T (bit b i)) → T (included a b)
   unfolding included
-  in_all k = rw (eq-eqb (bit_or a b) b (same_bits (bit_or a b) b (λ i. bit-or a b i ∙ go i (bit a i) refl))) tt
+  in_all k = rw (eq-eqb (bit_or a b) b (same_bits (bit_or a b) b (λ i. bit_or_lem a b i ∙ go i (bit a i) refl))) tt
     where
       go : (i : ℕ) (c : Bool) → bit a i ≡ c → c || bit b i ≡ bit b i
       go i true e = same_truth true (bit b i) (λ _. k i (rw e tt)) (λ _. tt)
       go i false e = refl
 
   pub entry_in : T (included a b) → (q x : ℕ) → T (mat a q x) → T (mat b q x)
-  entry_in t q x s = mat-of b q x (row_in a q x s) (column-in a q x s) (all_in t (q * 8 + x) (entry_of a q x s))
+  entry_in t q x s = mat_of b q x (row_in a q x s) (column_in a q x s) (all_in t (q * 8 + x) (entry_of a q x s))
 
-  pub in-entries : a < 2 ^ 64 → ((q x : ℕ) → T (mat a q x) → T (mat b q x)) → T (included a b)
-  in-entries h k = in_all λ i t. go i t (dec_lt i 64)
+  pub in_entries : a < 2 ^ 64 → ((q x : ℕ) → T (mat a q x) → T (mat b q x)) → T (included a b)
+  in_entries h k = in_all λ i t. go i t (dec_lt i 64)
     where
       go : (i : ℕ) → T (bit a i) → Dec (i < 64) → T (bit b i)
       go i t (yes l) =
           let q : i / 8 < 8 = (div-lt_iff_lt-mul {k = 8} {y = 8} (lit< tt)).1 l in
           let x : i % 8 < 8 = mod-lt i {m = 8} (lit< tt) in
           subst (λ n. T (bit b n)) (div-add-mod' i 8)
-          (entry_of b (i / 8) (i % 8) (k (i / 8) (i % 8) (mat-of a (i / 8) (i % 8) q x (subst⁻¹ (λ n. T (bit a n)) (div-add-mod' i 8) t))))
+          (entry_of b (i / 8) (i % 8) (k (i / 8) (i % 8) (mat_of a (i / 8) (i % 8) q x (subst⁻¹ (λ n. T (bit a n)) (div-add-mod' i 8) t))))
       go i t (no l) = absurd (subst T (bit_past a 64 i h (omega arith)) t)
 
   -- of a set of states
@@ -96,5 +96,5 @@ module _ (a b : ℕ) where
   in_row h k = in_all λ i t. go i t (dec_lt i 8)
     where
       go : (i : ℕ) → T (bit a i) → Dec (i < 8) → T (bit b i)
-      go i t (yes l) = subst (λ n. T (bit b n)) (zero-add i) (entry_of b 0 i (k i (mat-of a 0 i (lit< tt) l (subst⁻¹ (λ n. T (bit a n)) (zero-add i) t))))
+      go i t (yes l) = subst (λ n. T (bit b n)) (zero-add i) (entry_of b 0 i (k i (mat_of a 0 i (lit< tt) l (subst⁻¹ (λ n. T (bit a n)) (zero-add i) t))))
       go i t (no l) = absurd (subst T (bit_past a 8 i h (omega arith)) t)

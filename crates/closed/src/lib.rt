@@ -4,12 +4,12 @@ ghost use Rattle.std.specs.Prelude.{◌≡◌};
 ghost use Rattle.product.specs.Product.{symbol};
 ghost use Rattle.bits.specs.Matrix.{multiplied};
 ghost use Rattle.model.specs.Answers.{meant};
-ghost use Rattle.closed.specs.Closed.{ofSymbol, included, erasing, headsThere, ruleClosed};
+ghost use Rattle.closed.specs.Closed.{of_symbol, included, erasing, heads_there, rule_closed};
 
 use model::Rule;
 
 fn of_symbol(xs: &[u64; 32], g: usize) -> u64
-    ensures { result ≡ ofSymbol xs.now g }
+    ensures { result ≡ of_symbol xs.now g }
 {
     xs[g % 32]
 }
@@ -50,7 +50,7 @@ fn erasing(triples: &[u64; 32], steps: u64, rule: Rule) -> u64
 
 // The heads that are entered and returned to, where the steps end in the states `after`, are present.
 fn heads_there<'a>(triples: &'a [u64; 32], heads: &'a [u64; 32], after: u64, rule: Rule) -> bool
-    ensures { result ≡ headsThere triples.now heads.now after (meant rule) }
+    ensures { result ≡ heads_there triples.now heads.now after (meant rule) }
 {
     match rule {
         Rule::Exit(_) => true,
@@ -77,7 +77,7 @@ fn symbol(rule: Rule) -> usize
 
 // The rule, of these steps, is closed.
 pub fn rule_closed<'a>(triples: &'a [u64; 32], heads: &'a [u64; 32], steps: u64, rule: Rule) -> bool
-    ensures { result ≡ ruleClosed triples.now heads.now steps (meant rule) }
+    ensures { result ≡ rule_closed triples.now heads.now steps (meant rule) }
 {
     let g = symbol(rule);
     if !included(erasing(triples, steps, rule), of_symbol(triples, g)) {

@@ -11,29 +11,29 @@ use native.Mathlib.Numerals.{add-one}
 use native.Mathlib.Omega.{arith}
 use lib.Dec.{T}
 use Rattle.product.specs.Lists.{up_to, over, each, find, ◌∈◌}
-use Rattle.product.proofs.Lists.{over-suc}
+use Rattle.product.proofs.Lists.{over_suc}
 use Rattle.culprit.specs.First.{or_else, first_of}
 
-pub or-none : {A : Type 0} (o : Option A) → or_else o none ≡ o
-or-none none = refl
-or-none (some a) = refl
+pub or_none : {A : Type 0} (o : Option A) → or_else o none ≡ o
+or_none none = refl
+or_none (some a) = refl
 
 module _ {A : Type 0} where
   -- the turns of a loop
-  pub first-none : (f : ℕ → Option A) → first_of f 0 ≡ none
+  pub first_none : (f : ℕ → Option A) → first_of f 0 ≡ none
   unfolding first_of
-  first-none f = refl
+  first_none f = refl
 
   pub first_more : (f : ℕ → Option A) (i : ℕ) → first_of f i ≡ none → f i ≡ none → first_of f (i + 1) ≡ none
   unfolding first_of
   first_more f i a h = simp (add-one, a, h)
 
-  pub first-here : (f : ℕ → Option A) (n i : ℕ) (x : A) → i < n → first_of f i ≡ none → f i ≡ some x → first_of f n ≡ some x
+  pub first_here : (f : ℕ → Option A) (n i : ℕ) (x : A) → i < n → first_of f i ≡ none → f i ≡ some x → first_of f n ≡ some x
   unfolding first_of
-  first-here f zero i x l a h = absurd (not-suc-le-zero l)
-  first-here f (suc n) i x l a h =
+  first_here f zero i x l a h = absurd (not-suc-le-zero l)
+  first_here f (suc n) i x l a h =
       ⊎_elim (λ e. rw (← e) (simp (a, h)))
-      (λ lt. simp (first-here f n i x lt a h))
+      (λ lt. simp (first_here f n i x lt a h))
       (eq-or-lt_of_le (le_of_suc-le-suc l))
 
   -- the loop has come to the end
@@ -41,44 +41,44 @@ module _ {A : Type 0} where
   first_done f n i l k e = let j : i ≡ n = omega arith in rw j at e
 
   -- where two agree, and where at most one number has an answer
-  pub first-same : (f g : ℕ → Option A) (n : ℕ) → ((i : ℕ) → i < n → f i ≡ g i) → first_of f n ≡ first_of g n
+  pub first_same : (f g : ℕ → Option A) (n : ℕ) → ((i : ℕ) → i < n → f i ≡ g i) → first_of f n ≡ first_of g n
   unfolding first_of
-  first-same f g zero h = refl
-  first-same f g (suc n) h = ap₂ or_else (first-same f g n (λ i l. h i (omega arith))) (h n (omega arith))
+  first_same f g zero h = refl
+  first_same f g (suc n) h = ap₂ or_else (first_same f g n (λ i l. h i (omega arith))) (h n (omega arith))
 
-  pub first-idle : (f : ℕ → Option A) (n : ℕ) → ((i : ℕ) → i < n → f i ≡ none) → first_of f n ≡ none
+  pub first_idle : (f : ℕ → Option A) (n : ℕ) → ((i : ℕ) → i < n → f i ≡ none) → first_of f n ≡ none
   unfolding first_of
-  first-idle f zero h = refl
-  first-idle f (suc n) h = rw (first-idle f n (λ i l. h i (omega arith))) (h n (omega arith))
+  first_idle f zero h = refl
+  first_idle f (suc n) h = rw (first_idle f n (λ i l. h i (omega arith))) (h n (omega arith))
 
-  pub first-only : (f : ℕ → Option A) (n k : ℕ) → k < n → ((i : ℕ) → (i ≡ k → ⊥) → f i ≡ none) → first_of f n ≡ f k
+  pub first_only : (f : ℕ → Option A) (n k : ℕ) → k < n → ((i : ℕ) → (i ≡ k → ⊥) → f i ≡ none) → first_of f n ≡ f k
   unfolding first_of
-  first-only f zero k l h = absurd (not-suc-le-zero l)
-  first-only f (suc n) k l h = go (first-only f n k) (ℕ_discrete k n)
+  first_only f zero k l h = absurd (not-suc-le-zero l)
+  first_only f (suc n) k l h = go (first_only f n k) (ℕ_discrete k n)
     where
       go : (k < n → ((i : ℕ) → (i ≡ k → ⊥) → f i ≡ none) → first_of f n ≡ f k) → Dec (k ≡ n) → or_else (first_of f n) (f n) ≡ f k
-      go ih (yes e) = rw (first-idle f n (λ i j. h i (omega arith))) (ap f (sym e))
-      go ih (no e) = rw (h n (λ x. e (sym x))) (or-none (first_of f n) ∙ ih (omega arith) h)
+      go ih (yes e) = rw (first_idle f n (λ i j. h i (omega arith))) (ap f (sym e))
+      go ih (no e) = rw (h n (λ x. e (sym x))) (or_none (first_of f n) ∙ ih (omega arith) h)
 
-  pub first-steady : (o : Option A) (n : ℕ) → 0 < n → first_of (λ _. o) n ≡ o
+  pub first_steady : (o : Option A) (n : ℕ) → 0 < n → first_of (λ _. o) n ≡ o
   unfolding first_of
-  first-steady o zero l = absurd (not-suc-le-zero l)
-  first-steady none (suc n) l = first-idle (λ _. none) (suc n) (λ i _. refl)
-  first-steady (some a) (suc n) l = first-here (λ _. some a) (suc n) 0 a l (first-none (λ _. some a)) refl
+  first_steady o zero l = absurd (not-suc-le-zero l)
+  first_steady none (suc n) l = first_idle (λ _. none) (suc n) (λ i _. refl)
+  first_steady (some a) (suc n) l = first_here (λ _. some a) (suc n) 0 a l (first_none (λ _. some a)) refl
 
   -- what is found passes
-  pub first-elim : (P : A → Type 0) (f : ℕ → Option A) (n : ℕ) → ((i : ℕ) (x : A) → i < n → f i ≡ some x → P x) → (x : A) → first_of f n ≡ some x → P x
+  pub first_elim : (P : A → Type 0) (f : ℕ → Option A) (n : ℕ) → ((i : ℕ) (x : A) → i < n → f i ≡ some x → P x) → (x : A) → first_of f n ≡ some x → P x
   unfolding first_of
-  first-elim P f zero h x e = let z : ◌≡◌ {A = ℕ} 0 1 = cc in absurd (omega arith)
-  first-elim P f (suc n) h x e = go (first-elim P f n (λ i y l. h i y (omega arith)) x) (first_of f n) refl e
+  first_elim P f zero h x e = let z : ◌≡◌ {A = ℕ} 0 1 = cc in absurd (omega arith)
+  first_elim P f (suc n) h x e = go (first_elim P f n (λ i y l. h i y (omega arith)) x) (first_of f n) refl e
     where
       go : (first_of f n ≡ some x → P x) → (o : Option A) → first_of f n ≡ o → or_else o (f n) ≡ some x → P x
       go ih none u v = h n x (omega arith) v
       go ih (some y) u v = ih (u ∙ v)
 
-  pub find-elim : (p : A → Bool) (xs : List A) (x : A) → find p xs ≡ some x → (x ∈ xs) × T (p x)
-  find-elim p [] x e = let z : ◌≡◌ {A = ℕ} 0 1 = cc in absurd (omega arith)
-  find-elim p (y ∷ xs) x e = go (find-elim p xs x) (p y) refl e
+  pub find_elim : (p : A → Bool) (xs : List A) (x : A) → find p xs ≡ some x → (x ∈ xs) × T (p x)
+  find_elim p [] x e = let z : ◌≡◌ {A = ℕ} 0 1 = cc in absurd (omega arith)
+  find_elim p (y ∷ xs) x e = go (find_elim p xs x) (p y) refl e
     where
       back : some y ≡ some x → x ≡ y
       back e = cc
@@ -88,30 +88,30 @@ module _ {A : Type 0} where
       go ih false u v = let (i, t) = ih v in (inr i, t)
 
   -- a search through lists that are joined
-  pub find-append : (p : A → Bool) (xs ys : List A) → find p (xs ++ ys) ≡ or_else (find p xs) (find p ys)
-  find-append p [] ys = refl
-  find-append p (x ∷ xs) ys = go (find-append p xs ys) (p x)
+  pub find_append : (p : A → Bool) (xs ys : List A) → find p (xs ++ ys) ≡ or_else (find p xs) (find p ys)
+  find_append p [] ys = refl
+  find_append p (x ∷ xs) ys = go (find_append p xs ys) (p x)
     where
       go : find p (xs ++ ys) ≡ or_else (find p xs) (find p ys) → (b : Bool) → cond b (some x) (find p (xs ++ ys)) ≡ or_else (cond b (some x) (find p xs)) (find p ys)
       go ih true = refl
       go ih false = ih
 
-  pub find-over : (p : A → Bool) (n : ℕ) (f : ℕ → List A) → find p (over (up_to n) f) ≡ first_of (λ i. find p (f i)) n
+  pub find_over : (p : A → Bool) (n : ℕ) (f : ℕ → List A) → find p (over (up_to n) f) ≡ first_of (λ i. find p (f i)) n
   unfolding first_of
-  find-over p zero f = refl
-  find-over p (suc n) f = ap (find p) (over-suc n f) ∙ find-append p (over (up_to n) f) (f n) ∙ ap (λ o. or_else o (find p (f n))) (find-over p n f)
+  find_over p zero f = refl
+  find_over p (suc n) f = ap (find p) (over_suc n f) ∙ find_append p (over (up_to n) f) (f n) ∙ ap (λ o. or_else o (find p (f n))) (find_over p n f)
 
   -- the turns of a loop over the numbers
-  pub find-more : (p : A → Bool) (f : ℕ → List A) (i : ℕ) → find p (over (up_to i) f) ≡ none → find p (f i) ≡ none → find p (over (up_to (i + 1)) f) ≡ none
-  find-more p f i h k = find-over p (i + 1) f ∙ first_more (λ i. find p (f i)) i (sym (find-over p i f) ∙ h) k
+  pub find_more : (p : A → Bool) (f : ℕ → List A) (i : ℕ) → find p (over (up_to i) f) ≡ none → find p (f i) ≡ none → find p (over (up_to (i + 1)) f) ≡ none
+  find_more p f i h k = find_over p (i + 1) f ∙ first_more (λ i. find p (f i)) i (sym (find_over p i f) ∙ h) k
 
-  pub find-here : (p : A → Bool) (f : ℕ → List A) (n i : ℕ) (x : A) → i < n → find p (over (up_to i) f) ≡ none → find p (f i) ≡ some x → find p (over (up_to n) f) ≡ some x
-  find-here p f n i x l h k = find-over p n f ∙ first-here (λ i. find p (f i)) n i x l (sym (find-over p i f) ∙ h) k
+  pub find_here : (p : A → Bool) (f : ℕ → List A) (n i : ℕ) (x : A) → i < n → find p (over (up_to i) f) ≡ none → find p (f i) ≡ some x → find p (over (up_to n) f) ≡ some x
+  find_here p f n i x l h k = find_over p n f ∙ first_here (λ i. find p (f i)) n i x l (sym (find_over p i f) ∙ h) k
 
   -- none that passes
-  pub find-fails : (p : A → Bool) (n : ℕ) (f : ℕ → A) → ((i : ℕ) → p (f i) ≡ false) → find p (each (up_to n) f) ≡ none
-  find-fails p n f h = find-over p n (λ i. f i ∷ []) ∙ first-idle (λ i. find p (f i ∷ [])) n (λ i _. rw (h i))
+  pub find_fails : (p : A → Bool) (n : ℕ) (f : ℕ → A) → ((i : ℕ) → p (f i) ≡ false) → find p (each (up_to n) f) ≡ none
+  find_fails p n f h = find_over p n (λ i. f i ∷ []) ∙ first_idle (λ i. find p (f i ∷ [])) n (λ i _. rw (h i))
 
   -- one at most
-  pub find-one : (p : A → Bool) (n k : ℕ) (f : ℕ → A) → k < n → ((i : ℕ) → (i ≡ k → ⊥) → p (f i) ≡ false) → find p (each (up_to n) f) ≡ find p (f k ∷ [])
-  find-one p n k f l h = find-over p n (λ i. f i ∷ []) ∙ first-only (λ i. find p (f i ∷ [])) n k l (λ i j. rw (h i j))
+  pub find_one : (p : A → Bool) (n k : ℕ) (f : ℕ → A) → k < n → ((i : ℕ) → (i ≡ k → ⊥) → p (f i) ≡ false) → find p (each (up_to n) f) ≡ find p (f k ∷ [])
+  find_one p n k f l h = find_over p n (λ i. f i ∷ []) ∙ first_only (λ i. find p (f i ∷ [])) n k l (λ i j. rw (h i j))

@@ -5,18 +5,18 @@ use Rattle.product.specs.Lists.{find}
 use Rattle.product.specs.Facts.{Fact, head, triple}
 use Rattle.product.specs.Table.{present}
 use Rattle.table.specs.Cells.{view}
-use Rattle.table.specs.Places.{asFact}
+use Rattle.table.specs.Places.{as_fact}
 use Rattle.culprit.specs.declared.Goal.{Goal}
 use Rattle.culprit.specs.declared.Goal.TheVariants.{Nothing, Of}
 use Rattle.culprit.specs.First.{or_else, first_of}
 
 -- the code's answer as the theory has it
-abbrev pub goalOf : Fact → Goal
-goalOf f = Of (asFact f)
+abbrev pub goal_of : Fact → Goal
+goal_of f = Of (as_fact f)
 
-abbrev pub goalAs : Option Fact → Goal
-goalAs none = Nothing
-goalAs (some f) = goalOf f
+abbrev pub goal_as : Option Fact → Goal
+goal_as none = Nothing
+goal_as (some f) = goal_of f
 
 abbrev pub nothing : Option Fact → Bool
 nothing none = true
@@ -35,22 +35,22 @@ module _ (final : ℕ → Bool) (symbols states : ℕ) (heads triples : List ℕ
   abbrev pub guilty : Fact → Bool
   guilty f = final (end_of f) && present (view symbols states heads triples) f
 
-  abbrev pub ifGuilty : Fact → Option Fact
-  ifGuilty f = only_if (guilty f) f
+  abbrev pub if_guilty : Fact → Option Fact
+  if_guilty f = only_if (guilty f) f
 
   abbrev pub head_of : (q : ℕ) → Option Fact
-  head_of q = first_of (λ g. ifGuilty (head q g)) symbols
+  head_of q = first_of (λ g. if_guilty (head q g)) symbols
 
-  abbrev pub someHead : Option Fact
-  someHead = first_of head_of states
+  abbrev pub some_head : Option Fact
+  some_head = first_of head_of states
 
   -- from the state s and the symbol a
-  abbrev pub someTriple : (s a : ℕ) → Option Fact
-  someTriple s a = first_of (λ e. ifGuilty (triple s a e)) states
+  abbrev pub some_triple : (s a : ℕ) → Option Fact
+  some_triple s a = first_of (λ e. if_guilty (triple s a e)) states
 
-  abbrev pub culpritIn : (s a : ℕ) → Option Fact
-  culpritIn s a = or_else someHead (someTriple s a)
+  abbrev pub culprit_in : (s a : ℕ) → Option Fact
+  culprit_in s a = or_else some_head (some_triple s a)
 
   -- none is there
-  abbrev pub cleanIn : (s a : ℕ) → Bool
-  cleanIn s a = nothing (culpritIn s a)
+  abbrev pub clean_in : (s a : ℕ) → Bool
+  clean_in s a = nothing (culprit_in s a)

@@ -1,8 +1,8 @@
 // The violating fact that is taken of those that the two lent arrays hold: heads before triples, then lowest state, symbol and end state.
 ghost use Rattle.std.specs.Prelude.{◌≡◌};
-ghost use Rattle.lent.specs.Lending.{productIn};
+ghost use Rattle.lent.specs.Lending.{product_in};
 ghost use Rattle.table.specs.Places.{fact_of};
-ghost use Rattle.culprit.specs.Culprit.{goalAs, end_of, guilty, someHead, someTriple, culpritIn, cleanIn};
+ghost use Rattle.culprit.specs.Culprit.{goal_as, end_of, guilty, some_head, some_triple, culprit_in, clean_in};
 
 use lent::Lent;
 use table::{Fact, Size};
@@ -26,7 +26,7 @@ fn end_of(f: Fact) -> usize
 
 // The fact is held, and ends in a final state.
 fn guilty<'a>(m: &'a Lent, heads: &'a [u16], triples: &'a [u16], size: Size, f: Fact) -> bool
-    ensures { result ≡ guilty (productIn m.now).final size.symbols size.states heads.now triples.now (fact_of f) }
+    ensures { result ≡ guilty (product_in m.now).final size.symbols size.states heads.now triples.now (fact_of f) }
 {
     if !lent::is_final(m, end_of(f)) {
         return false;
@@ -36,7 +36,7 @@ fn guilty<'a>(m: &'a Lent, heads: &'a [u16], triples: &'a [u16], size: Size, f: 
 
 // The first head that is held in a final state.
 fn some_head<'a>(m: &'a Lent, heads: &'a [u16], triples: &'a [u16], size: Size) -> Goal
-    ensures { result ≡ goalAs (someHead (productIn m.now).final size.symbols size.states heads.now triples.now) }
+    ensures { result ≡ goal_as (some_head (product_in m.now).final size.symbols size.states heads.now triples.now) }
 {
     let states = size.states as usize;
     let symbols = size.symbols as usize;
@@ -66,7 +66,7 @@ fn some_triple<'a>(
     s: usize,
     a: usize,
 ) -> Goal
-    ensures { result ≡ goalAs (someTriple (productIn m.now).final size.symbols size.states heads.now triples.now s a) }
+    ensures { result ≡ goal_as (some_triple (product_in m.now).final size.symbols size.states heads.now triples.now s a) }
 {
     let states = size.states as usize;
     let mut e: usize = 0;
@@ -89,7 +89,7 @@ pub fn culprit<'a>(
     s: usize,
     a: usize,
 ) -> Goal
-    ensures { result ≡ goalAs (culpritIn (productIn m.now).final size.symbols size.states heads.now triples.now s a) }
+    ensures { result ≡ goal_as (culprit_in (product_in m.now).final size.symbols size.states heads.now triples.now s a) }
 {
     let f = some_head(m, heads, triples, size);
     match f {
@@ -107,7 +107,7 @@ pub fn is_clean<'a>(
     s: usize,
     a: usize,
 ) -> bool
-    ensures { result ≡ cleanIn (productIn m.now).final size.symbols size.states heads.now triples.now s a }
+    ensures { result ≡ clean_in (product_in m.now).final size.symbols size.states heads.now triples.now s a }
 {
     let f = culprit(m, heads, triples, size, s, a);
     match f {

@@ -14,17 +14,17 @@ use Rattle.product.specs.Product.{Rule, exit, direct, call, Product, InRange}
 use Rattle.product.specs.Facts.{same, first}
 use Rattle.product.proofs.Lists.{and_left, and_right, both, or_left, or_right, or_cases}
 use Rattle.bits.specs.Bit.{bit}
-use Rattle.bits.proofs.Bit.{bit-zero}
-use Rattle.bits.proofs.Lowest.{lowest, lowest_set, cleared, cleared-less}
-use Rattle.bits.proofs.Some.{some_of, of_some, some-lowest, some-none}
+use Rattle.bits.proofs.Bit.{bit_zero}
+use Rattle.bits.proofs.Lowest.{lowest, lowest_set, cleared, cleared_less}
+use Rattle.bits.proofs.Some.{some_of, of_some, some_lowest, some_none}
 use Rattle.relations.specs.Quiet.{QuietT, QuietH, Told}
-use Rattle.relations.proofs.Quiet.{enough-later}
+use Rattle.relations.proofs.Quiet.{enough_later}
 use Rattle.decide.specs.Sets.{member, chosen, Joined}
 use Rattle.decide.specs.Standing.{Sets}
 use Rattle.decide.specs.Turn.{collected, Collected, UsesOf, Uses}
-use Rattle.decide.proofs.Members.{or-false}
+use Rattle.decide.proofs.Members.{or_false}
 use Rattle.decide.proofs.Gathered.{or_assoc}
-use Rattle.decide.proofs.Emptied.{zeros-at}
+use Rattle.decide.proofs.Emptied.{zeros_at}
 
 -- what is left to collect, with the set as it is, makes what was asked
 pub record Left (us : List ℕ) (from changed : ℕ) (w₀ : List ℕ) (d : ℕ) (w : List ℕ) : Type 0 where
@@ -34,46 +34,46 @@ pub record Left (us : List ℕ) (from changed : ℕ) (w₀ : List ℕ) (d : ℕ)
   pub is : (r : ℕ) → r < 256 → chosen w r || collected us from d r ≡ chosen w₀ r || collected us from changed r
 
 module _ {us : List ℕ} {from changed : ℕ} {w₀ : List ℕ} where
-  pub left-first : changed < 2 ^ 64 → ((g : ℕ) → T (bit changed g) → g < 32) → length w₀ ≡ 4 → Left us from changed w₀ changed w₀
-  left-first h low l = record { small = h; low = low; long = l; is = λ r _. refl }
+  pub left_first : changed < 2 ^ 64 → ((g : ℕ) → T (bit changed g) → g < 32) → length w₀ ≡ 4 → Left us from changed w₀ changed w₀
+  left_first h low l = record { small = h; low = low; long = l; is = λ r _. refl }
 
-  pub lowest-low : {d : ℕ} {w : List ℕ} → 0 < d → Left us from changed w₀ d w → lowest d < 32
-  lowest-low {d} p l = l.low (lowest d) (lowest_set 64 d p l.small)
+  pub lowest_low : {d : ℕ} {w : List ℕ} → 0 < d → Left us from changed w₀ d w → lowest d < 32
+  lowest_low {d} p l = l.low (lowest d) (lowest_set 64 d p l.small)
 
-  pub left-next : {d : ℕ} {w w' : List ℕ} → 0 < d → Left us from changed w₀ d w → Joined w us (from + lowest d) w' → Left us from changed w₀ (bit_and d (d - 1)) w'
+  pub left_next : {d : ℕ} {w w' : List ℕ} → 0 < d → Left us from changed w₀ d w → Joined w us (from + lowest d) w' → Left us from changed w₀ (bit_and d (d - 1)) w'
   unfolding collected
-  left-next {d} {w} {w'} p l j = record {
-    small = omega (arith, cleared-less d p, l.small);
+  left_next {d} {w} {w'} p l j = record {
+    small = omega (arith, cleared_less d p, l.small);
     low = λ g t. l.low g (and_left (bit d g) (not (eqb g (lowest d))) (subst T (cleared 64 d g p l.small) t));
     long = j.long;
     is = λ r h.
         ap (λ b. b || collected us from (bit_and d (d - 1)) r) (j.is r h)
         ∙ sym (or_assoc (chosen w r) (member us (from + lowest d) r) (collected us from (bit_and d (d - 1)) r))
-        ∙ ap (λ b. chosen w r || b) (sym (some-lowest d p l.small (λ g. member us (from + g) r)))
+        ∙ ap (λ b. chosen w r || b) (sym (some_lowest d p l.small (λ g. member us (from + g) r)))
         ∙ l.is r h;
   }
 
-  pub left-last : {d : ℕ} {w : List ℕ} → d ≡ 0 → Left us from changed w₀ d w → Collected us from changed w₀ w
+  pub left_last : {d : ℕ} {w : List ℕ} → d ≡ 0 → Left us from changed w₀ d w → Collected us from changed w₀ w
   unfolding collected
-  left-last {d} {w} z l = record {
+  left_last {d} {w} z l = record {
     long = l.long;
     is = λ r h.
-        or-false (chosen w r) ∙ ap (λ b. chosen w r || b) (sym (some-none 64 (λ g. member us (from + g) r)))
+        or_false (chosen w r) ∙ ap (λ b. chosen w r || b) (sym (some_none 64 (λ g. member us (from + g) r)))
         ∙ ap (λ d. chosen w r || collected us from d r) (sym z) ∙ l.is r h;
   }
 
 -- a set has numbers below 256 only, and the empty set none
-pub chosen-small : (w : List ℕ) (r : ℕ) → length w ≡ 4 → T (chosen w r) → r < 256
+pub chosen_small : (w : List ℕ) (r : ℕ) → length w ≡ 4 → T (chosen w r) → r < 256
 unfolding chosen
-chosen-small w r long t = go (dec_lt (r / 64) 4)
+chosen_small w r long t = go (dec_lt (r / 64) 4)
   where
     go : Dec (r / 64 < 4) → r < 256
     go (yes l) = (div-lt_iff_lt-mul {k = 64} (zero-lt-suc 63)).0 l
-    go (no l) = absurd (subst T (ap (λ n. bit n (r % 64)) (get_or-eq_default w 0 (omega (arith, long))) ∙ bit-zero (r % 64)) t)
+    go (no l) = absurd (subst T (ap (λ n. bit n (r % 64)) (get_or-eq_default w 0 (omega (arith, long))) ∙ bit_zero (r % 64)) t)
 
 pub no_member : (r : ℕ) → T (chosen (replicate {A = ℕ} 4 0) r) → ⊥
 unfolding chosen
-no_member r t = subst T (ap (λ n. bit n (r % 64)) (zeros-at 4 (r / 64)) ∙ bit-zero (r % 64)) t
+no_member r t = subst T (ap (λ n. bit n (r % 64)) (zeros_at 4 (r / 64)) ∙ bit_zero (r % 64)) t
 
 pub off : (b : Bool) → (T b → ⊥) → b ≡ false
 off false h = refl
@@ -81,19 +81,19 @@ off true h = absurd (h tt)
 
 -- a rule of the joined set was there, or it stands in the set of a symbol that changed; and those are all in
 module _ {us : List ℕ} {from changed : ℕ} {w w' : List ℕ} (c : Collected us from changed w w') where
-  pub collected-cases : (r : ℕ) → T (chosen w' r) → T (chosen w r) ⊎ ((s : ℕ) × (r < 256) × T (member us s r))
+  pub collected_cases : (r : ℕ) → T (chosen w' r) → T (chosen w r) ⊎ ((s : ℕ) × (r < 256) × T (member us s r))
   unfolding collected
-  collected-cases r t =
-      let h = chosen-small w' r c.long t in
+  collected_cases r t =
+      let h = chosen_small w' r c.long t in
       ⊎_elim inl (λ v. let (g, _, x) = of_some 64 (λ g. bit changed g && member us (from + g) r) v in inr (from + g, h, and_right (bit changed g) (member us (from + g) r) x))
       (or_cases (chosen w r) (collected us from changed r) (subst T (c.is r h) t))
 
-  pub collected-was : (r : ℕ) → r < 256 → T (chosen w r) → T (chosen w' r)
-  collected-was r h t = subst⁻¹ T (c.is r h) (or_left (chosen w r) (collected us from changed r) t)
+  pub collected_was : (r : ℕ) → r < 256 → T (chosen w r) → T (chosen w' r)
+  collected_was r h t = subst⁻¹ T (c.is r h) (or_left (chosen w r) (collected us from changed r) t)
 
-  pub collected-new : (r g : ℕ) → r < 256 → g < 32 → T (bit changed g) → T (member us (from + g) r) → T (chosen w' r)
+  pub collected_new : (r g : ℕ) → r < 256 → g < 32 → T (bit changed g) → T (member us (from + g) r) → T (chosen w' r)
   unfolding collected
-  collected-new r g h l a b =
+  collected_new r g h l a b =
       subst⁻¹ T (c.is r h)
       (or_right (chosen w r) (collected us from changed r)
       (some_of 64 (λ g. bit changed g && member us (from + g) r) g (omega arith) (both (bit changed g) (member us (from + g) r) a b)))
@@ -102,34 +102,34 @@ module _ (p : Product) (R : InRange p) (few : p.rules ≤ 256) (us : List ℕ) (
     (ce-low : (g : ℕ) → T (bit ce g) → g < 32) (ch-low : (g : ℕ) → T (bit ch g) → g < 32)
     (D : Told p (same (first p)) n (bit ce) (bit ch)) {wt wc wh : List ℕ}
     (jt : Collected us 0 ce (replicate {A = ℕ} 4 0) wt) (jc : Collected us 32 ce (replicate {A = ℕ} 4 0) wc) (jh : Collected us 64 ch wc wh) where
-  new-t : (r g : ℕ) → r < p.rules → T (member us g r) → chosen wt r ≡ false → bit ce g ≡ false
-  new-t r g l a x = off (bit ce g) (λ t. subst T x (collected-new jt r g (omega arith) (ce-low g t) t (subst⁻¹ (λ s. T (member us s r)) (zero-add g) a)))
+  new_t : (r g : ℕ) → r < p.rules → T (member us g r) → chosen wt r ≡ false → bit ce g ≡ false
+  new_t r g l a x = off (bit ce g) (λ t. subst T x (collected_new jt r g (omega arith) (ce-low g t) t (subst⁻¹ (λ s. T (member us s r)) (zero-add g) a)))
 
-  new-h : (r g : ℕ) → r < p.rules → T (member us (64 + g) r) → chosen wh r ≡ false → bit ch g ≡ false
-  new-h r g l a x = off (bit ch g) (λ t. subst T x (collected-new jh r g (omega arith) (ch-low g t) t a))
+  new_h : (r g : ℕ) → r < p.rules → T (member us (64 + g) r) → chosen wh r ≡ false → bit ch g ≡ false
+  new_h r g l a x = off (bit ch g) (λ t. subst T x (collected_new jh r g (omega arith) (ch-low g t) t a))
 
-  new-c : (r g : ℕ) → r < p.rules → T (member us (32 + g) r) → chosen wh r ≡ false → bit ce g ≡ false
-  new-c r g l a x = off (bit ce g) (λ t. subst T x (collected-was jh r (omega arith) (collected-new jc r g (omega arith) (ce-low g t) t a)))
+  new_c : (r g : ℕ) → r < p.rules → T (member us (32 + g) r) → chosen wh r ≡ false → bit ce g ≡ false
+  new_c r g l a x = off (bit ce g) (λ t. subst T x (collected_was jh r (omega arith) (collected_new jc r g (omega arith) (ce-low g t) t a)))
 
-  watch-t : (r : ℕ) → r < p.rules → (ρ : Rule) → UsesOf us r ρ → chosen wt r ≡ false → QuietT (bit ce) ρ
-  watch-t r l (exit g) u x = tt
-  watch-t r l (direct g g1) (a, _) x = new-t r g1 l a x
-  watch-t r l (call g g1 g2) (a, b, _, _) x = (new-t r g1 l a x, new-t r g2 l b x)
+  watch_t : (r : ℕ) → r < p.rules → (ρ : Rule) → UsesOf us r ρ → chosen wt r ≡ false → QuietT (bit ce) ρ
+  watch_t r l (exit g) u x = tt
+  watch_t r l (direct g g1) (a, _) x = new_t r g1 l a x
+  watch_t r l (call g g1 g2) (a, b, _, _) x = (new_t r g1 l a x, new_t r g2 l b x)
 
-  watch-h : (r : ℕ) → r < p.rules → (ρ : Rule) → UsesOf us r ρ → chosen wh r ≡ false → QuietH (bit ce) (bit ch) ρ
-  watch-h r l (exit g) u x = tt
-  watch-h r l (direct g g1) (_, b) x = new-h r g l b x
-  watch-h r l (call g g1 g2) (_, _, c, d) x = (new-h r g l d x, new-c r g1 l c x)
+  watch_h : (r : ℕ) → r < p.rules → (ρ : Rule) → UsesOf us r ρ → chosen wh r ≡ false → QuietH (bit ce) (bit ch) ρ
+  watch_h r l (exit g) u x = tt
+  watch_h r l (direct g g1) (_, b) x = new_h r g l b x
+  watch_h r l (call g g1 g2) (_, _, c, d) x = (new_h r g l d x, new_c r g1 l c x)
 
-  from-us : {r : ℕ} → (s : ℕ) × (r < 256) × T (member us s r) → r < p.rules
-  from-us {r} (s, h, t) = U.only s r h t
+  from_us : {r : ℕ} → (s : ℕ) × (r < 256) × T (member us s r) → r < p.rules
+  from_us {r} (s, h, t) = U.only s r h t
 
-  pub sets-next : Sets p (suc n) wt wh
-  sets-next = record {
-    triples-long = jt.long;
-    heads-long = jh.long;
-    triples-only = λ r t. ⊎_elim (λ a. absurd (no_member r a)) from-us (collected-cases jt r t);
-    heads-only = λ r t. ⊎_elim (λ a. ⊎_elim (λ b. absurd (no_member r b)) from-us (collected-cases jc r a)) from-us (collected-cases jh r t);
-    enough = enough-later p R (same (first p)) n (bit ce) (bit ch) (chosen wt) (chosen wh)
-        record { triples = λ r l x. watch-t r l (p.rule r) (U.there r l) x; heads = λ r l x. watch-h r l (p.rule r) (U.there r l) x } D;
+  pub sets_next : Sets p (suc n) wt wh
+  sets_next = record {
+    triples_long = jt.long;
+    heads_long = jh.long;
+    triples_only = λ r t. ⊎_elim (λ a. absurd (no_member r a)) from_us (collected_cases jt r t);
+    heads_only = λ r t. ⊎_elim (λ a. ⊎_elim (λ b. absurd (no_member r b)) from_us (collected_cases jc r a)) from_us (collected_cases jh r t);
+    enough = enough_later p R (same (first p)) n (bit ce) (bit ch) (chosen wt) (chosen wh)
+        record { triples = λ r l x. watch_t r l (p.rule r) (U.there r l) x; heads = λ r l x. watch_h r l (p.rule r) (U.there r l) x } D;
   }

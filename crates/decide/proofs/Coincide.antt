@@ -19,20 +19,20 @@ meant (answered (safe n)) = Safe n
 meant (refused n []) = Invalid
 meant (refused n (b ∷ _)) = cond (eqb n 6) Invalid (cond (eqb n 7) Short (Spent b))
 
-meant-meaning : (r : Decision) → meant (meaning r) ≡ r
-meant-meaning (Violation n) = refl
-meant-meaning (Safe n) = refl
-meant-meaning Invalid = refl
-meant-meaning Short = refl
-meant-meaning (Spent b) = refl
+meant_meaning : (r : Decision) → meant (meaning r) ≡ r
+meant_meaning (Violation n) = refl
+meant_meaning (Safe n) = refl
+meant_meaning Invalid = refl
+meant_meaning Short = refl
+meant_meaning (Spent b) = refl
 
-pub meaning-one : (r r' : Decision) → meaning r ≡ meaning r' → r ≡ r'
-meaning-one = apart meant meant-meaning
+pub meaning_one : (r r' : Decision) → meaning r ≡ meaning r' → r ≡ r'
+meaning_one = apart meant meant_meaning
 
-pub decided-one : (m : Model) (budget : ℕ) (hs ts : List ℕ) (r r' : Decision) (hs' hs'' ts' ts'' : List ℕ)
+pub decided_one : (m : Model) (budget : ℕ) (hs ts : List ℕ) (r r' : Decision) (hs' hs'' ts' ts'' : List ℕ)
     → Decided m budget hs ts r hs' ts' → Decided m budget hs ts r' hs'' ts'' → (r ≡ r') × (hs' ≡ hs'') × (ts' ≡ ts'')
-decided-one m budget hs ts r r' hs' hs'' ts' ts'' a b = (
-  meaning-one r r' (a.answer ∙ sym b.answer),
+decided_one m budget hs ts r r' hs' hs'' ts' ts'' a b = (
+  meaning_one r r' (a.answer ∙ sym b.answer),
   a.heads ∙ sym b.heads,
   a.triples ∙ sym b.triples,
 )

@@ -15,25 +15,25 @@ use lib.Seq.{get_or-set_same, get_or-set_other}
 use borrow.Author.Tests.{eq-eqb, ne_eqb}
 use Rattle.product.specs.Lists.{any, up_to}
 use Rattle.product.proofs.Lists
-use Rattle.product.proofs.Lists.{and_left, and_right, both, or_left, or_right, or_cases, any_of, same_truth, in-upTo, upTo-lt}
+use Rattle.product.proofs.Lists.{and_left, and_right, both, or_left, or_right, or_cases, any_of, same_truth, in_up_to, up_to_lt}
 use Rattle.bits.specs.Bit.{bit}
 use Rattle.bits.specs.Matrix.{some}
-use Rattle.bits.proofs.Bit.{bit-or, bit-zero}
-use Rattle.bits.proofs.Set.{bit-set}
-use Rattle.bits.proofs.Lowest.{lowest, lowest_set, cleared, cleared-less}
+use Rattle.bits.proofs.Bit.{bit_or_lem, bit_zero}
+use Rattle.bits.proofs.Set.{bit_set}
+use Rattle.bits.proofs.Lowest.{lowest, lowest_set, cleared, cleared_less}
 use Rattle.bits.proofs.Some.{some_of, of_some, low64}
 use Rattle.decide.specs.Sets.{member, chosen, among, With, weight, PickedIn, Picked, Joined, Put}
 
-sixty-four : 0 < 64
-sixty-four = zero-lt-suc 63
+sixty_four : 0 < 64
+sixty_four = zero-lt-suc 63
 
-pub or-false : (b : Bool) → b ≡ b || false
-or-false true = refl
-or-false false = refl
+pub or_false : (b : Bool) → b ≡ b || false
+or_false true = refl
+or_false false = refl
 
-and-true : (b : Bool) → b ≡ b && true
-and-true true = refl
-and-true false = refl
+and_true : (b : Bool) → b ≡ b && true
+and_true true = refl
+and_true false = refl
 
 -- two numbers with the same word are the same exactly if their places in it are
 place : (r r' : ℕ) → r / 64 ≡ r' / 64 → eqb (r % 64) (r' % 64) ≡ eqb r r'
@@ -48,7 +48,7 @@ apart : (r r' : ℕ) → (r / 64 ≡ r' / 64 → ⊥) → eqb r r' ≡ false
 apart r r' h = ne_eqb r r' (λ e. h (ap (λ n. n / 64) e))
 
 pub word_of : (c : ℕ) → c < 256 → c / 64 < 4
-word_of c h = (div-lt_iff_lt-mul sixty-four).1 (omega arith)
+word_of c h = (div-lt_iff_lt-mul sixty_four).1 (omega arith)
 
 -- a word of the set is another
 module _ (w : List ℕ) (k n : ℕ) (l : k < length w) where
@@ -60,21 +60,21 @@ module _ (w : List ℕ) (k n : ℕ) (l : k < length w) where
   unfolding chosen
   same_word x e = ap (λ m. bit m (x % 64)) (ap (λ i. get_or (set w k n) i 0) (sym e) ∙ get_or-set_same w k n 0 l)
 
-pub with-is : (w : List ℕ) (c : ℕ) → length w ≡ 4 → c < 256 → With w c (set w (c / 64) (bit_or (get_or w (c / 64) 0) ((1 * 2 ^ (c % 64)) % 2 ^ 64)))
+pub with_is : (w : List ℕ) (c : ℕ) → length w ≡ 4 → c < 256 → With w c (set w (c / 64) (bit_or (get_or w (c / 64) 0) ((1 * 2 ^ (c % 64)) % 2 ^ 64)))
 unfolding chosen
-with-is w c long h = record { long = length-set w (c / 64) new ∙ long; is = λ x. at x (ℕ_discrete (c / 64) (x / 64)) }
+with_is w c long h = record { long = length-set w (c / 64) new ∙ long; is = λ x. at x (ℕ_discrete (c / 64) (x / 64)) }
   where
     new : ℕ
     new = bit_or (get_or w (c / 64) 0) ((1 * 2 ^ (c % 64)) % 2 ^ 64)
 
-    in-w : c / 64 < length w
-    in-w = omega (arith, word_of c h)
+    in_w : c / 64 < length w
+    in_w = omega (arith, word_of c h)
 
     at : (x : ℕ) → Dec (c / 64 ≡ x / 64) → chosen (set w (c / 64) (bit_or (get_or w (c / 64) 0) ((1 * 2 ^ (c % 64)) % 2 ^ 64))) x ≡ chosen w x || eqb c x
     at x (yes y) =
-        same_word w (c / 64) new in-w x y ∙ bit-set (get_or w (c / 64) 0) 64 (c % 64) (x % 64) (mod-lt c sixty-four)
+        same_word w (c / 64) new in_w x y ∙ bit_set (get_or w (c / 64) 0) 64 (c % 64) (x % 64) (mod-lt c sixty_four)
         ∙ ap₂ (λ n b. bit (get_or w n 0) (x % 64) || b) y (place c x y)
-    at x (no y) = other_word w (c / 64) new in-w x y ∙ or-false (chosen w x) ∙ ap (λ b. chosen w x || b) (sym (apart c x y))
+    at x (no y) = other_word w (c / 64) new in_w x y ∙ or_false (chosen w x) ∙ ap (λ b. chosen w x || b) (sym (apart c x y))
 
 -- the lowest of the first word that is not empty
 module _ (w : List ℕ) (k d : ℕ) (long : length w ≡ 4) (k-in : k < 4) (pos : 0 < d) (d-is : get_or w k 0 ≡ d) (small : d < 2 ^ 64) where
@@ -84,8 +84,8 @@ module _ (w : List ℕ) (k d : ℕ) (long : length w ≡ 4) (k-in : k < 4) (pos 
   low : lowest d < 64
   low = low64 d pos small
 
-  word-is : r / 64 ≡ k
-  word-is = digits_div k low
+  word_is : r / 64 ≡ k
+  word_is = digits_div k low
 
   place_is : r % 64 ≡ lowest d
   place_is = digits_mod k low
@@ -94,17 +94,17 @@ module _ (w : List ℕ) (k d : ℕ) (long : length w ≡ 4) (k-in : k < 4) (pos 
   unfolding chosen
   picked = record {
     long = length-set w k (bit_and d (d - 1)) ∙ long;
-    there = λ _. is-there;
+    there = λ _. is_there;
     less = λ _. lighter k k-in d-is;
     rest = λ _ x. at x (ℕ_discrete k (x / 64));
     none = λ h. absurd (h (omega (arith, low)));
   }
     where
-      is-there : T (chosen w r)
-      is-there = subst⁻¹ T (ap₂ (λ i j. bit (get_or w i 0) j) word-is place_is ∙ ap (λ n. bit n (lowest d)) d-is) (lowest_set 64 d pos small)
+      is_there : T (chosen w r)
+      is_there = subst⁻¹ T (ap₂ (λ i j. bit (get_or w i 0) j) word_is place_is ∙ ap (λ n. bit n (lowest d)) d-is) (lowest_set 64 d pos small)
 
       fewer : bit_and d (d - 1) < d
-      fewer = cleared-less d pos
+      fewer = cleared_less d pos
 
       other : (k i n : ℕ) → (i ≡ k → ⊥) → get_or (set w k n) i 0 ≡ get_or w i 0
       other k i n h = get_or-set_other w k i n 0 h
@@ -123,16 +123,16 @@ module _ (w : List ℕ) (k d : ℕ) (long : length w ≡ 4) (k-in : k < 4) (pos 
       at x (yes y) =
           same_word w k (bit_and d (d - 1)) (omega (arith, long)) x y ∙ cleared 64 d (x % 64) pos small
           ∙ ap₂ (λ n b. bit n (x % 64) && not b) (sym d-is ∙ ap (λ i. get_or w i 0) y)
-          (ap (eqb (x % 64)) (sym place_is) ∙ place x r (sym y ∙ sym word-is))
+          (ap (eqb (x % 64)) (sym place_is) ∙ place x r (sym y ∙ sym word_is))
       at x (no y) =
           other_word w k (bit_and d (d - 1)) (omega (arith, long)) x y
-          ∙ and-true (chosen w x) ∙ ap (λ b. chosen w x && not b) (sym (apart x r (λ e. y (sym word-is ∙ sym e))))
+          ∙ and_true (chosen w x) ∙ ap (λ b. chosen w x && not b) (sym (apart x r (λ e. y (sym word_is ∙ sym e))))
 
-  pub picked-in : {j : ℕ} → j ≡ lowest d → PickedIn w k (k * 64 + j) (set w k (bit_and d (d - 1)))
-  picked-in e = rw e (record { some = λ _. picked; none = λ h. absurd (h (omega (arith, low))) })
+  pub picked_in : {j : ℕ} → j ≡ lowest d → PickedIn w k (k * 64 + j) (set w k (bit_and d (d - 1)))
+  picked_in e = rw e (record { some = λ _. picked; none = λ h. absurd (h (omega (arith, low))) })
 
-pub picked-empty : (w : List ℕ) {k : ℕ} → get_or w k 0 ≡ 0 → PickedIn w k 256 w
-picked-empty w z = record { some = λ h. absurd (omega arith); none = λ _. (refl, z) }
+pub picked_empty : (w : List ℕ) {k : ℕ} → get_or w k 0 ≡ 0 → PickedIn w k 256 w
+picked_empty w z = record { some = λ h. absurd (omega arith); none = λ _. (refl, z) }
 
 -- no word is left
 picked_none : (w : List ℕ) (r : ℕ) → (r < 256 → ⊥) → length w ≡ 4 → ((k : ℕ) → k < 4 → get_or w k 0 ≡ 0) → Picked w r w
@@ -146,8 +146,8 @@ picked_none w r past_end long word = record {
 }
   where
     at : (x : ℕ) → Dec (x / 64 < 4) → chosen w x ≡ false
-    at x (yes l) = ap (λ n. bit n (x % 64)) (word (x / 64) l) ∙ bit-zero (x % 64)
-    at x (no l) = ap (λ n. bit n (x % 64)) (past w (x / 64) (omega (arith, long))) ∙ bit-zero (x % 64)
+    at x (yes l) = ap (λ n. bit n (x % 64)) (word (x / 64) l) ∙ bit_zero (x % 64)
+    at x (no l) = ap (λ n. bit n (x % 64)) (past w (x / 64) (omega (arith, long))) ∙ bit_zero (x % 64)
       where
         past : (w : List ℕ) (i : ℕ) → length w ≤ i → get_or w i 0 ≡ 0
         past [] i h = refl
@@ -164,27 +164,27 @@ module _ {w₀ : List ℕ} where
   passed_first = record { same = refl; empty = λ j h. absurd (omega arith) }
 
   module _ {k : ℕ} {w : List ℕ} (p : Passed w₀ k w) where
-    pub passed-long : length w₀ ≡ 4 → length w ≡ 4
-    passed-long n = ap length p.same ∙ n
+    pub passed_long : length w₀ ≡ 4 → length w ≡ 4
+    passed_long n = ap length p.same ∙ n
 
     module _ {r : ℕ} {w' : List ℕ} (i : PickedIn w k r w') where
-      pub passed-next : 256 ≤ r → Passed w₀ (suc k) w'
-      passed-next l = let (e, z) = i.none (λ h. omega arith) in record { same = e ∙ p.same; empty = λ j h. at j h (ℕ_discrete j k) z }
+      pub passed_next : 256 ≤ r → Passed w₀ (suc k) w'
+      passed_next l = let (e, z) = i.none (λ h. omega arith) in record { same = e ∙ p.same; empty = λ j h. at j h (ℕ_discrete j k) z }
         where
           at : (j : ℕ) → j < suc k → Dec (j ≡ k) → get_or w k 0 ≡ 0 → get_or w₀ j 0 ≡ 0
           at j h (yes e) z = ap (λ j. get_or w₀ j 0) e ∙ ap (λ w. get_or w k 0) (sym p.same) ∙ z
           at j h (no e) z = p.empty j (omega arith)
 
-      pub passed-pick : r < 256 → Picked w₀ r w'
-      passed-pick h = subst (λ w. Picked w r w') p.same (i.some h)
+      pub passed_pick : r < 256 → Picked w₀ r w'
+      passed_pick h = subst (λ w. Picked w r w') p.same (i.some h)
 
   -- the last word
-  pub passed-last : {w w' : List ℕ} {r : ℕ} → length w₀ ≡ 4 → Passed w₀ 3 w → PickedIn w 3 r w' → Picked w₀ r w'
-  passed-last {w} {w'} {r} n p i = go (dec_lt r 256)
+  pub passed_last : {w w' : List ℕ} {r : ℕ} → length w₀ ≡ 4 → Passed w₀ 3 w → PickedIn w 3 r w' → Picked w₀ r w'
+  passed_last {w} {w'} {r} n p i = go (dec_lt r 256)
     where
       go : Dec (r < 256) → Picked w₀ r w'
-      go (yes h) = passed-pick p i h
-      go (no h) = let q = passed-next p i (omega arith) in subst⁻¹ (Picked w₀ r) q.same (picked_none w₀ r h n (λ j l. q.empty j (omega arith)))
+      go (yes h) = passed_pick p i h
+      go (no h) = let q = passed_next p i (omega arith) in subst⁻¹ (Picked w₀ r) q.same (picked_none w₀ r h n (λ j l. q.empty j (omega arith)))
 
 -- a set joined with set number s, word by word: the first k are done
 pub record JoinedTo (w l : List ℕ) (s k : ℕ) (w' : List ℕ) : Type 0 where
@@ -194,11 +194,11 @@ pub record JoinedTo (w l : List ℕ) (s k : ℕ) (w' : List ℕ) : Type 0 where
   pub same : (j : ℕ) → k ≤ j → get_or w' j 0 ≡ get_or w j 0
 
 module _ {w l : List ℕ} {s : ℕ} where
-  pub joined-none : length w ≡ 4 → JoinedTo w l s 0 w
-  joined-none n = record { few = omega arith; long = n; done = λ j h. absurd (omega arith); same = λ j h. refl }
+  pub joined_none : length w ≡ 4 → JoinedTo w l s 0 w
+  joined_none n = record { few = omega arith; long = n; done = λ j h. absurd (omega arith); same = λ j h. refl }
 
-  pub joined-more : {k : ℕ} {w' : List ℕ} → k < 4 → JoinedTo w l s k w' → JoinedTo w l s (k + 1) (set w' k (bit_or (get_or w' k 0) (get_or l (s * 4 + k) 0)))
-  joined-more {k} {w'} h a = record {
+  pub joined_more : {k : ℕ} {w' : List ℕ} → k < 4 → JoinedTo w l s k w' → JoinedTo w l s (k + 1) (set w' k (bit_or (get_or w' k 0) (get_or l (s * 4 + k) 0)))
+  joined_more {k} {w'} h a = record {
     few = omega arith;
     long = length-set w' k (bit_or (get_or w' k 0) (get_or l (s * 4 + k) 0)) ∙ a.long;
     done = λ j i. at j i (ℕ_discrete j k);
@@ -211,13 +211,13 @@ module _ {w l : List ℕ} {s : ℕ} where
           (get_or-set_same w' k (bit_or (get_or w' k 0) (get_or l (s * 4 + k) 0)) 0 (omega (arith, a.long)) ∙ ap (λ n. bit_or n (get_or l (s * 4 + k) 0)) (a.same k (omega arith)))
       at j i (no e) = get_or-set_other w' k j (bit_or (get_or w' k 0) (get_or l (s * 4 + k) 0)) 0 e ∙ a.done j (omega arith)
 
-  pub joined-all : {k : ℕ} {w' : List ℕ} → 4 ≤ k → JoinedTo w l s k w' → Joined w l s w'
+  pub joined_all : {k : ℕ} {w' : List ℕ} → 4 ≤ k → JoinedTo w l s k w' → Joined w l s w'
   unfolding chosen member
-  joined-all {k} {w'} h a = record {
+  joined_all {k} {w'} h a = record {
     long = a.long;
     is = λ x i.
         ap (λ n. bit n (x % 64)) (a.done (x / 64) (omega (arith, word_of x i)))
-        ∙ bit-or (get_or w (x / 64) 0) (get_or l (s * 4 + x / 64) 0) (x % 64);
+        ∙ bit_or_lem (get_or w (x / 64) 0) (get_or l (s * 4 + x / 64) 0) (x % 64);
   }
 
 pub put_is : (l : List ℕ) (s r : ℕ) → length l ≡ 384 → s < 96 → r < 256
@@ -228,8 +228,8 @@ put_is l s r long hs hr = record { long = length-set l (s * 4 + r / 64) new ∙ 
     new : ℕ
     new = bit_or (get_or l (s * 4 + r / 64) 0) ((1 * 2 ^ (r % 64)) % 2 ^ 64)
 
-    in-l : s * 4 + r / 64 < length l
-    in-l = omega (arith, word_of r hr)
+    in_l : s * 4 + r / 64 < length l
+    in_l = omega (arith, word_of r hr)
 
     at : (s' x : ℕ) → x < 256 → Dec (s * 4 + r / 64 ≡ s' * 4 + x / 64)
         → member (set l (s * 4 + r / 64) (bit_or (get_or l (s * 4 + r / 64) 0) ((1 * 2 ^ (r % 64)) % 2 ^ 64))) s' x ≡ member l s' x || (eqb s s' && eqb r x)
@@ -237,12 +237,12 @@ put_is l s r long hs hr = record { long = length-set l (s * 4 + r / 64) new ∙ 
         let a : s ≡ s' = sym (digits_div s (word_of r hr)) ∙ ap (λ n. n / 4) y ∙ digits_div s' (word_of x h) in
         let b : r / 64 ≡ x / 64 = sym (digits_mod s (word_of r hr)) ∙ ap (λ n. n % 4) y ∙ digits_mod s' (word_of x h) in
         ap (λ n. bit (get_or (set l (s * 4 + r / 64) new) n 0) (x % 64)) (sym y)
-        ∙ ap (λ n. bit n (x % 64)) (get_or-set_same l (s * 4 + r / 64) new 0 in-l)
-        ∙ bit-set (get_or l (s * 4 + r / 64) 0) 64 (r % 64) (x % 64) (mod-lt r sixty-four)
+        ∙ ap (λ n. bit n (x % 64)) (get_or-set_same l (s * 4 + r / 64) new 0 in_l)
+        ∙ bit_set (get_or l (s * 4 + r / 64) 0) 64 (r % 64) (x % 64) (mod-lt r sixty_four)
         ∙ ap₂ (λ n c. bit (get_or l n 0) (x % 64) || c) y (place r x b ∙ ap (λ c. c && eqb r x) (sym (eq-eqb s s' a)))
     at s' x h (no y) =
         ap (λ n. bit n (x % 64)) (get_or-set_other l (s * 4 + r / 64) (s' * 4 + x / 64) new 0 (λ z. y (sym z)))
-        ∙ or-false (member l s' x) ∙ ap (λ c. member l s' x || c) (sym (none (eqb s s' && eqb r x) refl))
+        ∙ or_false (member l s' x) ∙ ap (λ c. member l s' x || c) (sym (none (eqb s s' && eqb r x) refl))
       where
         none : (c : Bool) → eqb s s' && eqb r x ≡ c → eqb s s' && eqb r x ≡ false
         none false e = e
@@ -255,17 +255,17 @@ pub among_of : (w : List ℕ) (f : ℕ → Bool) (r : ℕ) → r < 256 → T (ch
 unfolding among
 among_of w f r h a b = some_of 256 (λ r. chosen w r && f r) r h (both (chosen w r) (f r) a b)
 
-pub of-among : (w : List ℕ) (f : ℕ → Bool) → T (among w f) → (r : ℕ) × (r < 256) × T (chosen w r) × T (f r)
+pub of_among : (w : List ℕ) (f : ℕ → Bool) → T (among w f) → (r : ℕ) × (r < 256) × T (chosen w r) × T (f r)
 unfolding among
-of-among w f t = let (r, h, u) = of_some 256 (λ r. chosen w r && f r) t in (r, h, and_left (chosen w r) (f r) u, and_right (chosen w r) (f r) u)
+of_among w f t = let (r, h, u) = of_some 256 (λ r. chosen w r && f r) t in (r, h, and_left (chosen w r) (f r) u, and_right (chosen w r) (f r) u)
 
 module _ (w : List ℕ) (f : ℕ → Bool) where
   -- the member that was picked, and the others
-  pub among-picked : (r : ℕ) (w' : List ℕ) → r < 256 → Picked w r w' → among w f ≡ f r || among w' f
-  among-picked r w' h p = same_truth (among w f) (f r || among w' f) to from
+  pub among_picked : (r : ℕ) (w' : List ℕ) → r < 256 → Picked w r w' → among w f ≡ f r || among w' f
+  among_picked r w' h p = same_truth (among w f) (f r || among w' f) to from
     where
       to : T (among w f) → T (f r || among w' f)
-      to t = let (x, l, a, b) = of-among w f t in go x l a b (ℕ_discrete x r)
+      to t = let (x, l, a, b) = of_among w f t in go x l a b (ℕ_discrete x r)
         where
           go : (x : ℕ) → x < 256 → T (chosen w x) → T (f x) → Dec (x ≡ r) → T (f r || among w' f)
           go x l a b (yes e) = or_left (f r) (among w' f) (subst (λ x. T (f x)) e b)
@@ -277,24 +277,24 @@ module _ (w : List ℕ) (f : ℕ → Bool) where
           go : T (f r) ⊎ T (among w' f) → T (among w f)
           go (inl u) = among_of w f r h (p.there h) u
           go (inr u) =
-              let (x, l, a, b) = of-among w' f u in
+              let (x, l, a, b) = of_among w' f u in
               among_of w f x l (and_left (chosen w x) (not (eqb x r)) (subst T (p.rest h x) a)) b
 
   -- and where there is none
   pub among_none : ((x : ℕ) → chosen w x ≡ false) → among w f ≡ false
-  among_none h = same_truth (among w f) false (λ t. let (x, _, a, _) = of-among w f t in subst T (h x) a) (λ t. absurd t)
+  among_none h = same_truth (among w f) false (λ t. let (x, _, a, _) = of_among w f t in subst T (h x) a) (λ t. absurd t)
 
   -- by the numbers below n, where the set has no others
-  pub among-any : (n : ℕ) → n ≤ 256 → ((r : ℕ) → T (chosen w r) → r < n) → among w f ≡ any (λ r. chosen w r && f r) (up_to n)
-  among-any n few only = same_truth (among w f) (any (λ r. chosen w r && f r) (up_to n)) to from
+  pub among_any : (n : ℕ) → n ≤ 256 → ((r : ℕ) → T (chosen w r) → r < n) → among w f ≡ any (λ r. chosen w r && f r) (up_to n)
+  among_any n few only = same_truth (among w f) (any (λ r. chosen w r && f r) (up_to n)) to from
     where
       to : T (among w f) → T (any (λ r. chosen w r && f r) (up_to n))
-      to t = let (r, _, a, b) = of-among w f t in any_of (λ r. chosen w r && f r) (up_to n) r (in-upTo n r (only r a)) (both (chosen w r) (f r) a b)
+      to t = let (r, _, a, b) = of_among w f t in any_of (λ r. chosen w r && f r) (up_to n) r (in_up_to n r (only r a)) (both (chosen w r) (f r) a b)
 
       from : T (any (λ r. chosen w r && f r) (up_to n)) → T (among w f)
       from t =
           let (r, i, u) = Lists.some_of (λ r. chosen w r && f r) (up_to n) t in
-          let l = upTo-lt n r i in
+          let l = up_to_lt n r i in
           among_of w f r (omega arith) (and_left (chosen w r) (f r) u) (and_right (chosen w r) (f r) u)
 
 pub positive : (n : ℕ) → (n ≡ 0 → ⊥) → 0 < n

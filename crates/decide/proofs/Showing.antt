@@ -15,70 +15,70 @@ use lib.Seq.{get_or-set_same, get_or-set_other}
 use Rattle.product.proofs.Lists.{and_left, and_right, or_cases}
 use Rattle.table.specs.declared.Size.{Size}
 use Rattle.bits.specs.Bit.{bit}
-use Rattle.lent.specs.Lending.{modelIn}
-use Rattle.lent.proofs.Parts.{in-part}
-use Rattle.steps.specs.Steps.{class_of, symbol_of, statesAfter}
-use Rattle.steps.proofs.Built.{class-row}
+use Rattle.lent.specs.Lending.{model_in}
+use Rattle.lent.proofs.Parts.{in_part}
+use Rattle.steps.specs.Steps.{class_of, symbol_of, states_after}
+use Rattle.steps.proofs.Built.{class_row}
 use Rattle.bits.specs.Matrix.{mat, mats, some, passed, image}
-use Rattle.bits.proofs.Bit.{bit-or, bit-zero}
-use Rattle.bits.proofs.Set.{bit-pow, one_shifted}
-use Rattle.bits.proofs.Lowest.{lowest, lowest_set, cleared, cleared-less}
-use Rattle.bits.proofs.Image.{image-at}
+use Rattle.bits.proofs.Bit.{bit_or_lem, bit_zero}
+use Rattle.bits.proofs.Set.{bit_pow, one_shifted}
+use Rattle.bits.proofs.Lowest.{lowest, lowest_set, cleared, cleared_less}
+use Rattle.bits.proofs.Image.{image_at}
 use Rattle.steps.specs.declared.Row.{Row}
-use Rattle.steps.proofs.Rows.{class-at}
-use Rattle.steps.specs.Rows.{kind_at, class_at, overAt, underAt, RowAt}
+use Rattle.steps.proofs.Rows.{class_at_lem}
+use Rattle.steps.specs.Rows.{kind_at, class_at, over_at, under_at, RowAt}
 use Rattle.decide.specs.Sets.{Picked}
-use Rattle.decide.specs.Stamp.{of-heads, Entries, alone}
+use Rattle.decide.specs.Stamp.{of_heads, Entries, alone}
 use Rattle.decide.specs.Gather.{Empty}
 use Rattle.decide.specs.Take.{Took, Room, Fits}
-use Rattle.decide.specs.Show.{landing, shownBy, shown, shownAll, Shows, RowsCover, ShowsAll, RowsFit, SettlesRows}
-use Rattle.decide.proofs.Members.{or-false, among-picked, among_none}
-use Rattle.decide.proofs.Gathered.{or_assoc, mat-none}
+use Rattle.decide.specs.Show.{landing, shown_by, shown, shown_all, Shows, RowsCover, ShowsAll, RowsFit, SettlesRows}
+use Rattle.decide.proofs.Members.{or_false, among_picked, among_none}
+use Rattle.decide.proofs.Gathered.{or_assoc, mat_none}
 use Rattle.decide.proofs.Below.{some_alike}
-use Rattle.decide.proofs.Taking.{took-none, took-then, took-alike, room_after}
+use Rattle.decide.proofs.Taking.{took_none, took_then, took_alike, room_after}
 
-off-left : (a b : Bool) → a || b ≡ false → a ≡ false
-off-left false b x = refl
-off-left true b x = absurd (subst T x tt)
+off_left : (a b : Bool) → a || b ≡ false → a ≡ false
+off_left false b x = refl
+off_left true b x = absurd (subst T x tt)
 
-off-right : (a b : Bool) → a || b ≡ false → b ≡ false
-off-right false b x = x
-off-right true b x = absurd (subst T x tt)
+off_right : (a b : Bool) → a || b ≡ false → b ≡ false
+off_right false b x = x
+off_right true b x = absurd (subst T x tt)
 
 -- no bits, those of one row, and some after others
-shows-none : (m : ℕ → ℕ → Bool) (nh : List ℕ) → ((g x : ℕ) → m g x ≡ false) → Shows m nh 0 nh
-shows-none m nh k = record {
+shows_none : (m : ℕ → ℕ → Bool) (nh : List ℕ) → ((g x : ℕ) → m g x ≡ false) → Shows m nh 0 nh
+shows_none m nh k = record {
   as_long = refl;
-  rows = λ g x. or-false (bit (get_or nh g 0) x) ∙ ap (λ b. bit (get_or nh g 0) x || b) (sym (k g x));
-  low = λ g t. absurd (subst T (bit-zero g) t);
+  rows = λ g x. or_false (bit (get_or nh g 0) x) ∙ ap (λ b. bit (get_or nh g 0) x || b) (sym (k g x));
+  low = λ g t. absurd (subst T (bit_zero g) t);
   others = λ g _. refl;
 }
 
-pub shows-one : (g v : ℕ) (nh : List ℕ) → g < 32 → length nh ≡ 32
+pub shows_one : (g v : ℕ) (nh : List ℕ) → g < 32 → length nh ≡ 32
     → Shows (λ g' x. eqb g g' && bit v x) nh ((1 * 2 ^ g) % 2 ^ 64) (set nh g (bit_or (get_or nh g 0) v))
-shows-one g v nh l long = record {
+shows_one g v nh l long = record {
   as_long = length-set nh g (bit_or (get_or nh g 0) v);
   rows = λ g' x. at g' x (ℕ_discrete g g');
-  low = λ g' t. subst (λ n. n < 32) (eqb→eq g g' (subst T (set-bit g') t)) l;
-  others = λ g' x. get_or-set_other nh g g' (bit_or (get_or nh g 0) v) 0 (λ y. subst T (sym (set-bit g') ∙ x) (subst⁻¹ T (eq-eqb g g' (sym y)) tt));
+  low = λ g' t. subst (λ n. n < 32) (eqb→eq g g' (subst T (set_bit g') t)) l;
+  others = λ g' x. get_or-set_other nh g g' (bit_or (get_or nh g 0) v) 0 (λ y. subst T (sym (set_bit g') ∙ x) (subst⁻¹ T (eq-eqb g g' (sym y)) tt));
 }
   where
-    set-bit : (x : ℕ) → bit ((1 * 2 ^ g) % 2 ^ 64) x ≡ eqb g x
-    set-bit x = ap (λ n. bit n x) (one_shifted 64 g (omega arith)) ∙ bit-pow g x
+    set_bit : (x : ℕ) → bit ((1 * 2 ^ g) % 2 ^ 64) x ≡ eqb g x
+    set_bit x = ap (λ n. bit n x) (one_shifted 64 g (omega arith)) ∙ bit_pow g x
 
     at : (g' x : ℕ) → Dec (g ≡ g') → bit (get_or (set nh g (bit_or (get_or nh g 0) v)) g' 0) x ≡ bit (get_or nh g' 0) x || (eqb g g' && bit v x)
     at g' x (yes y) =
         subst (λ g'. bit (get_or (set nh g (bit_or (get_or nh g 0) v)) g' 0) x ≡ bit (get_or nh g' 0) x || (eqb g g' && bit v x)) y
-        (rw (eq-eqb g g refl) (ap (λ n. bit n x) (get_or-set_same nh g (bit_or (get_or nh g 0) v) 0 (omega arith)) ∙ bit-or (get_or nh g 0) v x))
+        (rw (eq-eqb g g refl) (ap (λ n. bit n x) (get_or-set_same nh g (bit_or (get_or nh g 0) v) 0 (omega arith)) ∙ bit_or_lem (get_or nh g 0) v x))
     at g' x (no y) =
-        rw (ne_eqb g g' y) (ap (λ n. bit n x) (get_or-set_other nh g g' (bit_or (get_or nh g 0) v) 0 (λ z. y (sym z))) ∙ or-false (bit (get_or nh g' 0) x))
+        rw (ne_eqb g g' y) (ap (λ n. bit n x) (get_or-set_other nh g g' (bit_or (get_or nh g 0) v) 0 (λ z. y (sym z))) ∙ or_false (bit (get_or nh g' 0) x))
 
 shows_then : {m m' : ℕ → ℕ → Bool} {a b c : List ℕ} {t t' : ℕ} → Shows m a t b → Shows m' b t' c → Shows (λ g x. m g x || m' g x) a (bit_or t t') c
 shows_then {m} {m'} {a} {b} {c} {t} {t'} s u = record {
   as_long = u.as_long ∙ s.as_long;
   rows = λ g x. u.rows g x ∙ ap (λ b. b || m' g x) (s.rows g x) ∙ sym (or_assoc (bit (get_or a g 0) x) (m g x) (m' g x));
-  low = λ g x. go g (or_cases (bit t g) (bit t' g) (subst T (bit-or t t' g) x));
-  others = λ g x. u.others g (off-right (bit t g) (bit t' g) (sym (bit-or t t' g) ∙ x)) ∙ s.others g (off-left (bit t g) (bit t' g) (sym (bit-or t t' g) ∙ x));
+  low = λ g x. go g (or_cases (bit t g) (bit t' g) (subst T (bit_or_lem t t' g) x));
+  others = λ g x. u.others g (off_right (bit t g) (bit t' g) (sym (bit_or_lem t t' g) ∙ x)) ∙ s.others g (off_left (bit t g) (bit t' g) (sym (bit_or_lem t t' g) ∙ x));
 }
   where
     go : (g : ℕ) → T (bit t g) ⊎ T (bit t' g) → g < 32
@@ -93,123 +93,123 @@ shows_alike m m' {a} k s = record {
   others = s.others;
 }
 
-pub land-is : (rs tg hd : List ℕ) (i c g v : ℕ) → i < 256 → c ≡ class_of (modelIn rs) i → g ≡ symbol_of c → v ≡ statesAfter (modelIn rs) tg i (get_or hd g 0) → v ≡ landing tg hd (class_at rs i)
-unfolding landing statesAfter
-land-is rs tg hd i c g v h c-is g-is v-is =
-    v-is ∙ ap₂ (λ g c. image (get_or hd g 0) (get_or tg c 0)) (g-is ∙ ap symbol_of (c-is ∙ class-at rs i)) (class-at rs i)
+pub land_is : (rs tg hd : List ℕ) (i c g v : ℕ) → i < 256 → c ≡ class_of (model_in rs) i → g ≡ symbol_of c → v ≡ states_after (model_in rs) tg i (get_or hd g 0) → v ≡ landing tg hd (class_at rs i)
+unfolding landing states_after
+land_is rs tg hd i c g v h c-is g-is v-is =
+    v-is ∙ ap₂ (λ g c. image (get_or hd g 0) (get_or tg c 0)) (g-is ∙ ap symbol_of (c-is ∙ class_at_lem rs i)) (class_at_lem rs i)
 
-some-off : (n : ℕ) (f : ℕ → Bool) → ((k : ℕ) → f k ≡ false) → some n f ≡ false
-some-off zero f h = refl
-some-off (suc n) f h = ap₂ ◌||◌ (some-off n f h) (h n)
+some_off : (n : ℕ) (f : ℕ → Bool) → ((k : ℕ) → f k ≡ false) → some n f ≡ false
+some_off zero f h = refl
+some_off (suc n) f h = ap₂ ◌||◌ (some_off n f h) (h n)
 
-off-and : (a : Bool) → a && false ≡ false
-off-and true = refl
-off-and false = refl
+off_and : (a : Bool) → a && false ≡ false
+off_and true = refl
+off_and false = refl
 
 -- a rule whose steps end nowhere
-nowhere : (kind over under : ℕ) (e : List ℕ) (l : ℕ → Bool) → ((x : ℕ) → l x ≡ false) → (g x : ℕ) → shownBy kind over under e l g x ≡ false
+nowhere : (kind over under : ℕ) (e : List ℕ) (l : ℕ → Bool) → ((x : ℕ) → l x ≡ false) → (g x : ℕ) → shown_by kind over under e l g x ≡ false
 nowhere zero over under e l h g x = refl
-nowhere (suc zero) over under e l h g x = ap (λ b. eqb over g && b) (h x) ∙ off-and (eqb over g)
+nowhere (suc zero) over under e l h g x = ap (λ b. eqb over g && b) (h x) ∙ off_and (eqb over g)
 nowhere (suc (suc j)) over under e l h g x =
     rw (eqb-suc-zero (suc j), eqb-suc-suc (suc j) 0, eqb-suc-zero j)
-    (ap₂ ◌||◌ (ap (λ b. eqb over g && b) (h x) ∙ off-and (eqb over g))
-    (ap (λ b. eqb under g && b) (some-off 8 (λ k. l k && mats e over k x) (λ k. ap (λ b. b && mats e over k x) (h k))) ∙ off-and (eqb under g)))
+    (ap₂ ◌||◌ (ap (λ b. eqb over g && b) (h x) ∙ off_and (eqb over g))
+    (ap (λ b. eqb under g && b) (some_off 8 (λ k. l k && mats e over k x) (λ k. ap (λ b. b && mats e over k x) (h k))) ∙ off_and (eqb under g)))
 
 -- one rule, by its row
 module _ {rs : List ℕ} {i : ℕ} {row : Row} (at : RowAt rs i row) (tg e hd nh : List ℕ) where
   abbrev l : ℕ → Bool
   l = bit (landing tg hd (class_at rs i))
 
-  pub show-exit : row.kind ≡ 0 → Shows (shown rs tg e hd i) nh 0 nh
+  pub show_exit : row.kind ≡ 0 → Shows (shown rs tg e hd i) nh 0 nh
   unfolding shown
-  show-exit k = shows-none (shown rs tg e hd i) nh (λ g x. rw (eq-eqb (kind_at rs i) 0 (sym at.kind-is ∙ k)))
+  show_exit k = shows_none (shown rs tg e hd i) nh (λ g x. rw (eq-eqb (kind_at rs i) 0 (sym at.kind_is ∙ k)))
 
   module _ (k : row.kind ≡ 0 → ⊥) {v : ℕ} (v-is : v ≡ landing tg hd (class_at rs i)) where
     lands : (x : ℕ) → bit v x ≡ l x
     lands x = ap (λ n. bit n x) v-is
 
-    not-exit : eqb (kind_at rs i) 0 ≡ false
-    not-exit = ne_eqb (kind_at rs i) 0 (λ z. k (at.kind-is ∙ z))
+    not_exit : eqb (kind_at rs i) 0 ≡ false
+    not_exit = ne_eqb (kind_at rs i) 0 (λ z. k (at.kind_is ∙ z))
 
-    pub show-none : v ≡ 0 → Shows (shown rs tg e hd i) nh 0 nh
+    pub show_none : v ≡ 0 → Shows (shown rs tg e hd i) nh 0 nh
     unfolding shown
-    show-none z =
-        shows-none (shown rs tg e hd i) nh
-        (nowhere (kind_at rs i) (overAt rs i) (underAt rs i) e l (λ x. sym (lands x) ∙ ap (λ n. bit n x) z ∙ bit-zero x))
+    show_none z =
+        shows_none (shown rs tg e hd i) nh
+        (nowhere (kind_at rs i) (over_at rs i) (under_at rs i) e l (λ x. sym (lands x) ∙ ap (λ n. bit n x) z ∙ bit_zero x))
 
     module _ {t : ℕ} {nh' : List ℕ} (s : Shows (λ g x. eqb row.over g && bit v x) nh t nh') where
-      on-top : Shows (λ g x. eqb (overAt rs i) g && l x) nh t nh'
-      on-top = shows_alike (λ g x. eqb row.over g && bit v x) (λ g x. eqb (overAt rs i) g && l x) (λ g x. ap₂ (λ h b. eqb h g && b) at.over-is (lands x)) s
+      on_top : Shows (λ g x. eqb (over_at rs i) g && l x) nh t nh'
+      on_top = shows_alike (λ g x. eqb row.over g && bit v x) (λ g x. eqb (over_at rs i) g && l x) (λ g x. ap₂ (λ h b. eqb h g && b) at.over_is (lands x)) s
 
-      pub show-direct : row.kind ≡ 1 → Shows (shown rs tg e hd i) nh t nh'
+      pub show_direct : row.kind ≡ 1 → Shows (shown rs tg e hd i) nh t nh'
       unfolding shown
-      show-direct j =
-          shows_alike (λ g x. eqb (overAt rs i) g && l x) (shown rs tg e hd i) (λ g x. rw (not-exit, eq-eqb (kind_at rs i) 1 (sym at.kind-is ∙ j))) on-top
+      show_direct j =
+          shows_alike (λ g x. eqb (over_at rs i) g && l x) (shown rs tg e hd i) (λ g x. rw (not_exit, eq-eqb (kind_at rs i) 1 (sym at.kind_is ∙ j))) on_top
 
       module _ (j : row.kind ≡ 1 → ⊥) where
         is_call : eqb (kind_at rs i) 1 ≡ false
-        is_call = ne_eqb (kind_at rs i) 1 (λ z. j (at.kind-is ∙ z))
+        is_call = ne_eqb (kind_at rs i) 1 (λ z. j (at.kind_is ∙ z))
 
         -- a call whose g1 has no triple
-        pub show-entered : get_or e row.over 0 ≡ 0 → Shows (shown rs tg e hd i) nh t nh'
+        pub show_entered : get_or e row.over 0 ≡ 0 → Shows (shown rs tg e hd i) nh t nh'
         unfolding shown
-        show-entered z =
-            shows_alike (λ g x. eqb (overAt rs i) g && l x) (shown rs tg e hd i)
-            (λ g x. rw (not-exit, is_call) (or-false (eqb (overAt rs i) g && l x) ∙ ap (λ b. (eqb (overAt rs i) g && l x) || b) (sym (none g x)))) on-top
+        show_entered z =
+            shows_alike (λ g x. eqb (over_at rs i) g && l x) (shown rs tg e hd i)
+            (λ g x. rw (not_exit, is_call) (or_false (eqb (over_at rs i) g && l x) ∙ ap (λ b. (eqb (over_at rs i) g && l x) || b) (sym (none g x)))) on_top
           where
-            no-triple : (q x : ℕ) → mats e (overAt rs i) q x ≡ false
-            no-triple q x = mat-none (get_or e (overAt rs i) 0) q x (ap (λ g. get_or e g 0) (sym at.over-is) ∙ z)
+            no_triple : (q x : ℕ) → mats e (over_at rs i) q x ≡ false
+            no_triple q x = mat_none (get_or e (over_at rs i) 0) q x (ap (λ g. get_or e g 0) (sym at.over_is) ∙ z)
 
-            none : (g x : ℕ) → eqb (underAt rs i) g && some 8 (λ k. l k && mats e (overAt rs i) k x) ≡ false
-            none g x = ap (λ b. eqb (underAt rs i) g && b) (some-off 8 (λ k. l k && mats e (overAt rs i) k x) (λ k. ap (λ b. l k && b) (no-triple k x) ∙ off-and (l k))) ∙ off-and (eqb (underAt rs i) g)
+            none : (g x : ℕ) → eqb (under_at rs i) g && some 8 (λ k. l k && mats e (over_at rs i) k x) ≡ false
+            none g x = ap (λ b. eqb (under_at rs i) g && b) (some_off 8 (λ k. l k && mats e (over_at rs i) k x) (λ k. ap (λ b. l k && b) (no_triple k x) ∙ off_and (l k))) ∙ off_and (eqb (under_at rs i) g)
 
         module _ {u : ℕ} (u-is : u ≡ image v (get_or e row.over 0)) {t' : ℕ} {nh'' : List ℕ} (s' : Shows (λ g x. eqb row.under g && bit u x) nh' t' nh'') where
-          back : (x : ℕ) → bit u x ≡ some 8 (λ k. l k && mats e (overAt rs i) k x)
+          back : (x : ℕ) → bit u x ≡ some 8 (λ k. l k && mats e (over_at rs i) k x)
           unfolding passed
           back x =
-              ap (λ n. bit n x) u-is ∙ image-at v (get_or e row.over 0) x ∙ ap (λ g. some 8 (λ k. mat v 0 k && mat (get_or e g 0) k x)) at.over-is
-              ∙ some_alike 8 (λ k. mat v 0 k && mats e (overAt rs i) k x) (λ k. l k && mats e (overAt rs i) k x)
-              (λ k h. ap (λ b. b && mats e (overAt rs i) k x) (ap (λ b. b && bit v (0 * 8 + k)) (lt-ltb k 8 h) ∙ ap (bit v) (zero-add k) ∙ lands k))
+              ap (λ n. bit n x) u-is ∙ image_at v (get_or e row.over 0) x ∙ ap (λ g. some 8 (λ k. mat v 0 k && mat (get_or e g 0) k x)) at.over_is
+              ∙ some_alike 8 (λ k. mat v 0 k && mats e (over_at rs i) k x) (λ k. l k && mats e (over_at rs i) k x)
+              (λ k h. ap (λ b. b && mats e (over_at rs i) k x) (ap (λ b. b && bit v (0 * 8 + k)) (lt-ltb k 8 h) ∙ ap (bit v) (zero-add k) ∙ lands k))
 
-          under : Shows (λ g x. eqb (underAt rs i) g && some 8 (λ k. l k && mats e (overAt rs i) k x)) nh' t' nh''
+          under : Shows (λ g x. eqb (under_at rs i) g && some 8 (λ k. l k && mats e (over_at rs i) k x)) nh' t' nh''
           under =
-              shows_alike (λ g x. eqb row.under g && bit u x) (λ g x. eqb (underAt rs i) g && some 8 (λ k. l k && mats e (overAt rs i) k x))
-              (λ g x. ap₂ (λ h b. eqb h g && b) at.under-is (back x)) s'
+              shows_alike (λ g x. eqb row.under g && bit u x) (λ g x. eqb (under_at rs i) g && some 8 (λ k. l k && mats e (over_at rs i) k x))
+              (λ g x. ap₂ (λ h b. eqb h g && b) at.under_is (back x)) s'
 
-          pub show-call : Shows (shown rs tg e hd i) nh (bit_or t t') nh''
+          pub show_call : Shows (shown rs tg e hd i) nh (bit_or t t') nh''
           unfolding shown
-          show-call =
-              shows_alike (λ g x. (eqb (overAt rs i) g && l x) || (eqb (underAt rs i) g && some 8 (λ k. l k && mats e (overAt rs i) k x))) (shown rs tg e hd i)
-              (λ g x. rw (not-exit, is_call)) (shows_then on-top under)
+          show_call =
+              shows_alike (λ g x. (eqb (over_at rs i) g && l x) || (eqb (under_at rs i) g && some 8 (λ k. l k && mats e (over_at rs i) k x))) (shown rs tg e hd i)
+              (λ g x. rw (not_exit, is_call)) (shows_then on_top under)
 
 -- the rules of a set: what is left to show, with the rows as they are, makes what was asked
 pub record Left (rs tg e hd w nh₀ left : List ℕ) (t : ℕ) (nh : List ℕ) : Type 0 where
   pub long : length left ≡ 4
-  pub rows : (g x : ℕ) → bit (get_or nh g 0) x || shownAll rs tg e hd left g x ≡ shownAll rs tg e hd w g x
+  pub rows : (g x : ℕ) → bit (get_or nh g 0) x || shown_all rs tg e hd left g x ≡ shown_all rs tg e hd w g x
   pub covers : RowsCover t nh
 
 module _ {rs tg e hd w nh₀ : List ℕ} where
-  pub left-first : length w ≡ 4 → Empty 32 nh₀ → Left rs tg e hd w nh₀ w 0 nh₀
-  left-first h z = record {
+  pub left_first : length w ≡ 4 → Empty 32 nh₀ → Left rs tg e hd w nh₀ w 0 nh₀
+  left_first h z = record {
     long = h;
-    rows = λ g x. ap (λ n. bit n x || shownAll rs tg e hd w g x) (z.empty g) ∙ ap (λ b. b || shownAll rs tg e hd w g x) (bit-zero x);
-    covers = record { long = z.long; low = λ g t. absurd (subst T (bit-zero g) t); empty = λ g _. z.empty g };
+    rows = λ g x. ap (λ n. bit n x || shown_all rs tg e hd w g x) (z.empty g) ∙ ap (λ b. b || shown_all rs tg e hd w g x) (bit_zero x);
+    covers = record { long = z.long; low = λ g t. absurd (subst T (bit_zero g) t); empty = λ g _. z.empty g };
   }
 
-  pub left-next : {left left' nh nh' : List ℕ} {t t' i : ℕ} → i < 256 → Picked left i left' → Left rs tg e hd w nh₀ left t nh
+  pub left_next : {left left' nh nh' : List ℕ} {t t' i : ℕ} → i < 256 → Picked left i left' → Left rs tg e hd w nh₀ left t nh
       → Shows (shown rs tg e hd i) nh t' nh' → Left rs tg e hd w nh₀ left' (bit_or t t') nh'
-  unfolding shownAll
-  left-next {left} {left'} {nh} {nh'} {t} {t'} {i} h p l s = record {
+  unfolding shown_all
+  left_next {left} {left'} {nh} {nh'} {t} {t'} {i} h p l s = record {
     long = p.long;
     rows = λ g x.
-        ap (λ b. b || shownAll rs tg e hd left' g x) (s.rows g x)
-        ∙ sym (or_assoc (bit (get_or nh g 0) x) (shown rs tg e hd i g x) (shownAll rs tg e hd left' g x))
-        ∙ ap (λ b. bit (get_or nh g 0) x || b) (sym (among-picked left (λ i. shown rs tg e hd i g x) i left' h p))
+        ap (λ b. b || shown_all rs tg e hd left' g x) (s.rows g x)
+        ∙ sym (or_assoc (bit (get_or nh g 0) x) (shown rs tg e hd i g x) (shown_all rs tg e hd left' g x))
+        ∙ ap (λ b. bit (get_or nh g 0) x || b) (sym (among_picked left (λ i. shown rs tg e hd i g x) i left' h p))
         ∙ l.rows g x;
     covers = record {
       long = s.as_long ∙ l.covers.long;
-      low = λ g x. go g (or_cases (bit t g) (bit t' g) (subst T (bit-or t t' g) x));
-      empty = λ g x. s.others g (off-right (bit t g) (bit t' g) (sym (bit-or t t' g) ∙ x)) ∙ l.covers.empty g (off-left (bit t g) (bit t' g) (sym (bit-or t t' g) ∙ x));
+      low = λ g x. go g (or_cases (bit t g) (bit t' g) (subst T (bit_or_lem t t' g) x));
+      empty = λ g x. s.others g (off_right (bit t g) (bit t' g) (sym (bit_or_lem t t' g) ∙ x)) ∙ l.covers.empty g (off_left (bit t g) (bit t' g) (sym (bit_or_lem t t' g) ∙ x));
     };
   }
     where
@@ -217,11 +217,11 @@ module _ {rs tg e hd w nh₀ : List ℕ} where
       go g (inl x) = l.covers.low g x
       go g (inr x) = s.low g x
 
-  pub left-last : {left left' nh : List ℕ} {t i : ℕ} → (i < 256 → ⊥) → Picked left i left' → Left rs tg e hd w nh₀ left t nh
-      → ShowsAll (shownAll rs tg e hd w) t nh
-  unfolding shownAll
-  left-last {left} {left'} {nh} h p l = record {
-    rows = λ g x. or-false (bit (get_or nh g 0) x) ∙ ap (λ b. bit (get_or nh g 0) x || b) (sym (among_none left (λ i. shown rs tg e hd i g x) (p.none h))) ∙ l.rows g x;
+  pub left_last : {left left' nh : List ℕ} {t i : ℕ} → (i < 256 → ⊥) → Picked left i left' → Left rs tg e hd w nh₀ left t nh
+      → ShowsAll (shown_all rs tg e hd w) t nh
+  unfolding shown_all
+  left_last {left} {left'} {nh} h p l = record {
+    rows = λ g x. or_false (bit (get_or nh g 0) x) ∙ ap (λ b. bit (get_or nh g 0) x || b) (sym (among_none left (λ i. shown rs tg e hd i g x) (p.none h))) ∙ l.rows g x;
     covers = l.covers;
   }
 
@@ -231,19 +231,19 @@ pub record RowsLeft (z : Size) (k : ℕ) (nh₀ hd₀ hs₀ : List ℕ) (d w : �
   pub low : (g : ℕ) → T (bit d g) → g < 32
   pub long : length nh ≡ 32
   pub done : Entries
-  pub took : Took of-heads z k done hd₀ hs₀ w hd hs
+  pub took : Took of_heads z k done hd₀ hs₀ w hd hs
   pub all : (g q x : ℕ) → done g q x || (bit d g && mats nh₀ g q x) ≡ mats nh₀ g q x
   pub same : (g : ℕ) → T (bit d g) → get_or nh g 0 ≡ get_or nh₀ g 0
   pub gone : (g : ℕ) → bit d g ≡ false → get_or nh g 0 ≡ 0
 
 module _ {z : Size} {k : ℕ} {nh₀ hd₀ hs₀ : List ℕ} where
-  pub rows-first : {t : ℕ} → t < 2 ^ 64 → RowsCover t nh₀ → RowsLeft z k nh₀ hd₀ hs₀ t 0 nh₀ hd₀ hs₀
-  rows-first {t} h c = record {
+  pub rows_first : {t : ℕ} → t < 2 ^ 64 → RowsCover t nh₀ → RowsLeft z k nh₀ hd₀ hs₀ t 0 nh₀ hd₀ hs₀
+  rows_first {t} h c = record {
     small = h;
     low = c.low;
     long = c.long;
     done = λ g q x. false;
-    took = took-none of-heads z k (λ g q x. false) hd₀ hs₀ (λ g q x t. absurd t);
+    took = took_none of_heads z k (λ g q x. false) hd₀ hs₀ (λ g q x t. absurd t);
     all = λ g q x. at g q x (bit t g) refl;
     same = λ g _. refl;
     gone = c.empty;
@@ -251,37 +251,37 @@ module _ {z : Size} {k : ℕ} {nh₀ hd₀ hs₀ : List ℕ} where
     where
       at : (g q x : ℕ) (b : Bool) → bit t g ≡ b → b && mats nh₀ g q x ≡ mats nh₀ g q x
       at g q x true e = refl
-      at g q x false e = sym (mat-none (get_or nh₀ g 0) q x (c.empty g e))
+      at g q x false e = sym (mat_none (get_or nh₀ g 0) q x (c.empty g e))
 
   module _ {d w : ℕ} {nh hd hs : List ℕ} (pos : 0 < d) (l : RowsLeft z k nh₀ hd₀ hs₀ d w nh hd hs) where
-    lowest-in : T (bit d (lowest d))
-    lowest-in = lowest_set 64 d pos l.small
+    lowest_in : T (bit d (lowest d))
+    lowest_in = lowest_set 64 d pos l.small
 
     pub row_low : lowest d < 32
-    row_low = l.low (lowest d) lowest-in
+    row_low = l.low (lowest d) lowest_in
 
-    pub row_fits : RowsFit z nh₀ → Fits of-heads z (lowest d) (get_or nh (lowest d) 0)
-    row_fits f = subst⁻¹ (λ n. Fits of-heads z (lowest d) n) (l.same (lowest d) lowest-in) (f (lowest d) row_low)
+    pub row_fits : RowsFit z nh₀ → Fits of_heads z (lowest d) (get_or nh (lowest d) 0)
+    row_fits f = subst⁻¹ (λ n. Fits of_heads z (lowest d) n) (l.same (lowest d) lowest_in) (f (lowest d) row_low)
 
-    pub rows-room : Room of-heads z hd₀ hs₀ → Room of-heads z hd hs
-    rows-room = room_after l.took
+    pub rows_room : Room of_heads z hd₀ hs₀ → Room of_heads z hd hs
+    rows_room = room_after l.took
 
     rest : (g : ℕ) → bit (bit_and d (d - 1)) g ≡ bit d g && not (eqb g (lowest d))
     rest g = cleared 64 d g pos l.small
 
-    off-not : (a b : Bool) → b ≡ false → a && not b ≡ false → a ≡ false
-    off-not false b x y = refl
-    off-not true false x y = absurd (subst T y tt)
-    off-not true true x y = absurd (subst T x tt)
+    off_not : (a b : Bool) → b ≡ false → a && not b ≡ false → a ≡ false
+    off_not false b x y = refl
+    off_not true false x y = absurd (subst T y tt)
+    off_not true true x y = absurd (subst T x tt)
 
-    pub rows_next : {w' : ℕ} {hd' hs' : List ℕ} → Took of-heads z k (alone (lowest d) (get_or nh (lowest d) 0)) hd hs w' hd' hs'
+    pub rows_next : {w' : ℕ} {hd' hs' : List ℕ} → Took of_heads z k (alone (lowest d) (get_or nh (lowest d) 0)) hd hs w' hd' hs'
         → RowsLeft z k nh₀ hd₀ hs₀ (bit_and d (d - 1)) (bit_or w w') (set nh (lowest d) 0) hd' hs'
     rows_next {w'} {hd'} {hs'} t = record {
-      small = omega (arith, cleared-less d pos, l.small);
+      small = omega (arith, cleared_less d pos, l.small);
       low = λ g u. l.low g (and_left (bit d g) (not (eqb g (lowest d))) (subst T (rest g) u));
       long = length-set nh (lowest d) 0 ∙ l.long;
       done = λ g q x. l.done g q x || alone (lowest d) (get_or nh (lowest d) 0) g q x;
-      took = took-then l.took t;
+      took = took_then l.took t;
       all = λ g q x. at g q x (ℕ_discrete (lowest d) g);
       same = λ g u.
           let v : T (bit d g && not (eqb g (lowest d))) = subst T (rest g) u in
@@ -292,7 +292,7 @@ module _ {z : Size} {k : ℕ} {nh₀ hd₀ hs₀ : List ℕ} where
       where
         empty : (g : ℕ) → bit d g && not (eqb g (lowest d)) ≡ false → Dec (g ≡ lowest d) → get_or (set nh (lowest d) 0) g 0 ≡ 0
         empty g u (yes y) = ap (λ g. get_or (set nh (lowest d) 0) g 0) y ∙ get_or-set_same nh (lowest d) 0 0 (omega (arith, row_low, l.long))
-        empty g u (no y) = get_or-set_other nh (lowest d) g 0 0 y ∙ l.gone g (off-not (bit d g) (eqb g (lowest d)) (ne_eqb g (lowest d) y) u)
+        empty g u (no y) = get_or-set_other nh (lowest d) g 0 0 y ∙ l.gone g (off_not (bit d g) (eqb g (lowest d)) (ne_eqb g (lowest d) y) u)
 
         cut : (a b c : Bool) → a || (c && b) ≡ b → T c → (a || b) || false ≡ b
         cut true b true x t = x
@@ -304,24 +304,24 @@ module _ {z : Size} {k : ℕ} {nh₀ hd₀ hs₀ : List ℕ} where
         at g q x (yes y) =
             subst (λ g. (l.done g q x || alone (lowest d) (get_or nh (lowest d) 0) g q x) || (bit (bit_and d (d - 1)) g && mats nh₀ g q x) ≡ mats nh₀ g q x) y
             (ap₂ (λ a b. (l.done (lowest d) q x || a) || (b && mats nh₀ (lowest d) q x))
-            (ap (λ b. b && mat (get_or nh (lowest d) 0) q x) (eq-eqb (lowest d) (lowest d) refl) ∙ ap (λ n. mat n q x) (l.same (lowest d) lowest-in))
-            (rest (lowest d) ∙ ap (λ b. bit d (lowest d) && not b) (eq-eqb (lowest d) (lowest d) refl) ∙ off-and (bit d (lowest d)))
-            ∙ cut (l.done (lowest d) q x) (mats nh₀ (lowest d) q x) (bit d (lowest d)) (l.all (lowest d) q x) lowest-in)
+            (ap (λ b. b && mat (get_or nh (lowest d) 0) q x) (eq-eqb (lowest d) (lowest d) refl) ∙ ap (λ n. mat n q x) (l.same (lowest d) lowest_in))
+            (rest (lowest d) ∙ ap (λ b. bit d (lowest d) && not b) (eq-eqb (lowest d) (lowest d) refl) ∙ off_and (bit d (lowest d)))
+            ∙ cut (l.done (lowest d) q x) (mats nh₀ (lowest d) q x) (bit d (lowest d)) (l.all (lowest d) q x) lowest_in)
         at g q x (no y) =
             ap₂ (λ a b. (l.done g q x || a) || (b && mats nh₀ g q x))
             (ap (λ b. b && mat (get_or nh (lowest d) 0) q x) (ne_eqb (lowest d) g y))
-            (rest g ∙ ap (λ b. bit d g && not b) (ne_eqb g (lowest d) (λ e. y (sym e))) ∙ and-on (bit d g))
-            ∙ ap (λ b. b || (bit d g && mats nh₀ g q x)) (sym (or-false (l.done g q x))) ∙ l.all g q x
+            (rest g ∙ ap (λ b. bit d g && not b) (ne_eqb g (lowest d) (λ e. y (sym e))) ∙ and_on (bit d g))
+            ∙ ap (λ b. b || (bit d g && mats nh₀ g q x)) (sym (or_false (l.done g q x))) ∙ l.all g q x
           where
-            and-on : (a : Bool) → a && true ≡ a
-            and-on true = refl
-            and-on false = refl
+            and_on : (a : Bool) → a && true ≡ a
+            and_on true = refl
+            and_on false = refl
 
   pub rows_last : {d w : ℕ} {nh hd hs : List ℕ} → d ≡ 0 → RowsLeft z k nh₀ hd₀ hs₀ d w nh hd hs → SettlesRows z k nh₀ hd₀ hs₀ w nh hd hs
   rows_last {d} e l = record {
-    took = took-alike (λ g q x. or-false (l.done g q x) ∙ ap (λ b. l.done g q x || (b && mats nh₀ g q x)) (sym (none g)) ∙ l.all g q x) l.took;
+    took = took_alike (λ g q x. or_false (l.done g q x) ∙ ap (λ b. l.done g q x || (b && mats nh₀ g q x)) (sym (none g)) ∙ l.all g q x) l.took;
     empty = record { long = l.long; empty = λ g. l.gone g (none g) };
   }
     where
       none : (g : ℕ) → bit d g ≡ false
-      none g = ap (λ d. bit d g) e ∙ bit-zero g
+      none g = ap (λ d. bit d g) e ∙ bit_zero g

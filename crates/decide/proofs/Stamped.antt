@@ -1,5 +1,5 @@
 -- One bit of a matrix stamped, and then the rest. Assumes nothing.
-use mathlib.Core.Bool.{Bool, true, false, cond, not, ◌&&◌, and-true}
+use mathlib.Core.Bool.{Bool, true, false, cond, not, ◌&&◌, and_true}
 use mathlib.Core.List.{List, []}
 use mathlib.Core.Path.{◌≡◌, refl, sym, ap, ap₂, ◌∙◌, subst, subst⁻¹, fun_ext}
 use Prim.Native.Nat.{ℕ, ◌+◌, ◌-◌, ◌*◌, ◌/◌, ◌%◌, ◌^◌, ◌<◌, ◌≤◌}
@@ -14,32 +14,32 @@ use lib.Bits.{bit_and}
 use Rattle.product.specs.Facts.{Fact, head, triple, same}
 use Rattle.product.specs.Table.{Table}
 use Rattle.table.specs.declared.Size.{Size}
-use Rattle.table.specs.Cells.{store, tripleCell, putHead, putTriple}
-use Rattle.table.proofs.Cells.{triple-inside}
-use Rattle.table.proofs.Store.{store-head, past_head, length-head, store-triple, past-triple, length-triple}
+use Rattle.table.specs.Cells.{store, triple_cell, put_head, put_triple}
+use Rattle.table.proofs.Cells.{triple_inside}
+use Rattle.table.proofs.Store.{store_head, past_head, length_head, store_triple, past_triple, length_triple}
 use Rattle.product.proofs.Lists.{T_true}
 use Rattle.bits.specs.Bit.{bit}
-use Rattle.bits.proofs.Bit.{bit-zero, bit_past}
+use Rattle.bits.proofs.Bit.{bit_zero, bit_past}
 use Rattle.bits.specs.Matrix.{entry, mat}
-use Rattle.bits.proofs.Lowest.{lowest, lowest_set, cleared, cleared-less}
-use Rattle.decide.specs.Stamp.{Sort, of-heads, of-triples, view_of, cells_of, Became, alone, named, ranked, Stamps}
+use Rattle.bits.proofs.Lowest.{lowest, lowest_set, cleared, cleared_less}
+use Rattle.decide.specs.Stamp.{Sort, of_heads, of_triples, view_of, cells_of, Became, alone, named, ranked, Stamps}
 
 -- the triples of symbol g that stand in the matrix d, and the heads that stand in the row d
 abbrev stamped : (k g d : ℕ) → Table → Table
 stamped k g d t (head q g') = t (head q g')
 stamped k g d t (triple q g' e) = cond (eqb g' g && ltb e 8 && entry d q e) k (t (triple q g' e))
 
-abbrev stampedHeads : (k g d : ℕ) → Table → Table
-stampedHeads k g d t (head q g') = cond (eqb g' g && bit d q) k (t (head q g'))
-stampedHeads k g d t (triple q g' e) = t (triple q g' e)
+abbrev stamped_heads : (k g d : ℕ) → Table → Table
+stamped_heads k g d t (head q g') = cond (eqb g' g && bit d q) k (t (head q g'))
+stamped_heads k g d t (triple q g' e) = t (triple q g' e)
 
 by : {A : Type 0} (b : Bool) → (b ≡ true → A) → (b ≡ false → A) → A
 by true f g = f refl
 by false f g = g refl
 
-and-right-false : (a : Bool) → a && false ≡ false
-and-right-false true = refl
-and-right-false false = refl
+and_right_false : (a : Bool) → a && false ≡ false
+and_right_false true = refl
+and_right_false false = refl
 
 eight : 0 < 8
 eight = zero-lt-suc 7
@@ -74,21 +74,21 @@ module _ (k g d : ℕ) (pos : 0 < d) (small : d < 2 ^ 64) (t : Table) where
       go true x = refl
       go false x = refl
 
-  stamp-step : stamped k g d t ≡ stamped k g (bit_and d (d - 1)) (store t (triple (low / 8) g (low % 8)) k)
-  stamp-step = fun_ext at
+  stamp_step : stamped k g d t ≡ stamped k g (bit_and d (d - 1)) (store t (triple (low / 8) g (low % 8)) k)
+  stamp_step = fun_ext at
     where
       at : (f : Fact) → stamped k g d t f ≡ stamped k g (bit_and d (d - 1)) (store t (triple (low / 8) g (low % 8)) k) f
       at (head q g') = refl
       at (triple q g' e) =
           by (eqb g' g)
           (λ u. by (ltb e 8)
-          (λ v. rw (u, v, eq-eqb g g' (sym (eqb-true g' g u)), and-true (eqb (low / 8) q)) (cell q e (t (triple q g' e)) (ltb-true e 8 v)))
-          (λ v. rw (u, v, ne_eqb (low % 8) e (λ x. omega (arith, ltb-false e 8 v, mod-lt low eight)), and-right-false (eqb (low / 8) q && eqb g g'))))
-          (λ u. rw (u, ne_eqb g g' (λ x. eqb-false g' g u (sym x)), and-right-false (eqb (low / 8) q)))
+          (λ v. rw (u, v, eq-eqb g g' (sym (eqb-true g' g u)), and_true (eqb (low / 8) q)) (cell q e (t (triple q g' e)) (ltb-true e 8 v)))
+          (λ v. rw (u, v, ne_eqb (low % 8) e (λ x. omega (arith, ltb-false e 8 v, mod-lt low eight)), and_right_false (eqb (low / 8) q && eqb g g'))))
+          (λ u. rw (u, ne_eqb g g' (λ x. eqb-false g' g u (sym x)), and_right_false (eqb (low / 8) q)))
 
   -- a head
-  head-cell : (q x : ℕ) → cond (bit d q) k x ≡ cond (bit (bit_and d (d - 1)) q) k (cond (eqb low q) k x)
-  head-cell q x =
+  head_cell_lem : (q x : ℕ) → cond (bit d q) k x ≡ cond (bit (bit_and d (d - 1)) q) k (cond (eqb low q) k x)
+  head_cell_lem q x =
       rw (cleared 64 d q pos small)
       (by (eqb q low)
       (λ y.
@@ -101,29 +101,29 @@ module _ (k g d : ℕ) (pos : 0 < d) (small : d < 2 ^ 64) (t : Table) where
       go true = refl
       go false = refl
 
-  heads-step : stampedHeads k g d t ≡ stampedHeads k g (bit_and d (d - 1)) (store t (head low g) k)
-  heads-step = fun_ext at
+  heads_step : stamped_heads k g d t ≡ stamped_heads k g (bit_and d (d - 1)) (store t (head low g) k)
+  heads_step = fun_ext at
     where
-      at : (f : Fact) → stampedHeads k g d t f ≡ stampedHeads k g (bit_and d (d - 1)) (store t (head low g) k) f
+      at : (f : Fact) → stamped_heads k g d t f ≡ stamped_heads k g (bit_and d (d - 1)) (store t (head low g) k) f
       at (triple q g' e) = refl
       at (head q g') =
           by (eqb g' g)
-          (λ u. rw (u, eq-eqb g g' (sym (eqb-true g' g u)), and-true (eqb low q)) (head-cell q (t (head q g'))))
-          (λ u. rw (u, ne_eqb g g' (λ x. eqb-false g' g u (sym x)), and-right-false (eqb low q)))
+          (λ u. rw (u, eq-eqb g g' (sym (eqb-true g' g u)), and_true (eqb low q)) (head_cell_lem q (t (head q g'))))
+          (λ u. rw (u, ne_eqb g g' (λ x. eqb-false g' g u (sym x)), and_right_false (eqb low q)))
 
-heads-none : (k g : ℕ) (t : Table) → stampedHeads k g 0 t ≡ t
-heads-none k g t = fun_ext at
+heads_none : (k g : ℕ) (t : Table) → stamped_heads k g 0 t ≡ t
+heads_none k g t = fun_ext at
   where
-    at : (f : Fact) → stampedHeads k g 0 t f ≡ t f
-    at (head q g') = rw (bit-zero q, and-right-false (eqb g' g))
+    at : (f : Fact) → stamped_heads k g 0 t f ≡ t f
+    at (head q g') = rw (bit_zero q, and_right_false (eqb g' g))
     at (triple q g' e) = refl
 
-stamp-none : (k g : ℕ) (t : Table) → stamped k g 0 t ≡ t
-stamp-none k g t = fun_ext at
+stamp_none : (k g : ℕ) (t : Table) → stamped k g 0 t ≡ t
+stamp_none k g t = fun_ext at
   where
     at : (f : Fact) → stamped k g 0 t f ≡ t f
     at (head q g') = refl
-    at (triple q g' e) = rw (bit-zero (q * 8 + e), and-right-false (eqb g' g && ltb e 8))
+    at (triple q g' e) = rw (bit_zero (q * 8 + e), and_right_false (eqb g' g && ltb e 8))
 
 -- no bit past the word
 abbrev pub Word : ℕ → Type 0
@@ -144,20 +144,20 @@ past d k i l = go (bit d i) refl
     go true x = let j : i < 64 = k i (rw x tt) in absurd (omega arith)
 
 -- a bit of a word as an entry
-pub as-entry : (d i : ℕ) → i < 64 → T (bit d i) → T (mat d (i / 8) (i % 8))
-as-entry d i l t =
+pub as_entry : (d i : ℕ) → i < 64 → T (bit d i) → T (mat d (i / 8) (i % 8))
+as_entry d i l t =
     rw (lt-ltb (i / 8) 8 ((div-lt_iff_lt-mul eight).1 (omega arith)), lt-ltb (i % 8) 8 (mod-lt i eight))
     (subst⁻¹ (λ j. T (bit d j)) (div-add-mod' i 8) t)
 
-eqb-flip : (g g' : ℕ) → eqb g' g ≡ eqb g g'
-eqb-flip g g' = go (ℕ_discrete g g')
+eqb_flip : (g g' : ℕ) → eqb g' g ≡ eqb g g'
+eqb_flip g g' = go (ℕ_discrete g g')
   where
     go : Dec (g ≡ g') → eqb g' g ≡ eqb g g'
     go (yes x) = eq-eqb g' g (sym x) ∙ sym (eq-eqb g g' x)
     go (no x) = ne_eqb g' g (λ y. x (sym y)) ∙ sym (ne_eqb g g' x)
 
-stamped-is : (k g d : ℕ) → Word d → (t : Table) → stamped k g d t ≡ ranked k (named of-triples (alone g d)) t
-stamped-is k g d small t = fun_ext at
+stamped_is : (k g d : ℕ) → Word d → (t : Table) → stamped k g d t ≡ ranked k (named of_triples (alone g d)) t
+stamped_is k g d small t = fun_ext at
   where
     off : (a b : Bool) → a && b && false ≡ a && false
     off true true = refl
@@ -173,107 +173,107 @@ stamped-is k g d small t = fun_ext at
     same q g' x false y =
         ap (λ c. eqb g g' && ltb x 8 && c) (past d small (q * 8 + x) (omega (arith, ltb-false q 8 y))) ∙ off (eqb g g') (ltb x 8)
 
-    at : (f : Fact) → stamped k g d t f ≡ ranked k (named of-triples (alone g d)) t f
+    at : (f : Fact) → stamped k g d t f ≡ ranked k (named of_triples (alone g d)) t f
     at (head q g') = refl
     at (triple q g' x) =
-        ap (λ c. cond (c && ltb x 8 && entry d q x) k (t (triple q g' x))) (eqb-flip g g')
+        ap (λ c. cond (c && ltb x 8 && entry d q x) k (t (triple q g' x))) (eqb_flip g g')
         ∙ ap (λ c. cond c k (t (triple q g' x))) (same q g' x (ltb q 8) refl)
 
-heads-are : (k g d : ℕ) → ((i : ℕ) → T (bit d i) → i < 8) → (t : Table) → stampedHeads k g d t ≡ ranked k (named of-heads (alone g d)) t
-heads-are k g d small t = fun_ext at
+heads_are : (k g d : ℕ) → ((i : ℕ) → T (bit d i) → i < 8) → (t : Table) → stamped_heads k g d t ≡ ranked k (named of_heads (alone g d)) t
+heads_are k g d small t = fun_ext at
   where
     assoc : (a b : Bool) → (T b → T a) → b ≡ a && b
     assoc true b h = refl
     assoc false true h = absurd (h tt)
     assoc false false h = refl
 
-    at : (f : Fact) → stampedHeads k g d t f ≡ ranked k (named of-heads (alone g d)) t f
+    at : (f : Fact) → stamped_heads k g d t f ≡ ranked k (named of_heads (alone g d)) t f
     at (triple q g' x) = refl
     at (head q g') =
-        ap (λ c. cond (c && bit d q) k (t (head q g'))) (eqb-flip g g')
+        ap (λ c. cond (c && bit d q) k (t (head q g'))) (eqb_flip g g')
         ∙ ap (λ c. cond (eqb g g' && c) k (t (head q g')))
         (assoc (ltb q 8) (bit d q) (λ u. subst⁻¹ T (lt-ltb q 8 (small q u)) tt) ∙ ap (λ n. ltb q 8 && bit d n) (sym (zero-add q)))
 
 and_first : (a b : Bool) → T (a && b) → T a
 and_first true b t = tt
 
-abbrev stampedOf : Sort → (k g d : ℕ) → Table → Table
-stampedOf of-heads = stampedHeads
-stampedOf of-triples = stamped
+abbrev stamped_of : Sort → (k g d : ℕ) → Table → Table
+stamped_of of_heads = stamped_heads
+stamped_of of_triples = stamped
 
 -- what is left to stamp, with the table as it is, makes what was asked
 pub record Left (s : Sort) (z : Size) (k g b : ℕ) (xs₀ : List ℕ) (d : ℕ) (xs : List ℕ) : Type 0 where
   pub small : d < 2 ^ 64
   pub part : (i : ℕ) → T (bit d i) → T (bit b i)
-  pub is : stampedOf s k g d (view_of s z xs) ≡ stampedOf s k g b (view_of s z xs₀)
+  pub is : stamped_of s k g d (view_of s z xs) ≡ stamped_of s k g b (view_of s z xs₀)
   pub as_long : length xs ≡ length xs₀
   pub past : drop (cells_of s z) xs ≡ drop (cells_of s z) xs₀
 
-pub left-first : (s : Sort) (z : Size) (k g b : ℕ) (xs₀ : List ℕ) → b < 2 ^ 64 → Left s z k g b xs₀ b xs₀
-left-first s z k g b xs₀ h = record { small = h; part = λ i t. t; is = refl; as_long = refl; past = refl }
+pub left_first : (s : Sort) (z : Size) (k g b : ℕ) (xs₀ : List ℕ) → b < 2 ^ 64 → Left s z k g b xs₀ b xs₀
+left_first s z k g b xs₀ h = record { small = h; part = λ i t. t; is = refl; as_long = refl; past = refl }
 
 module _ (z : Size) (k g b : ℕ) (xs₀ : List ℕ) where
-  part-next : (d : ℕ) → 0 < d → d < 2 ^ 64 → ((i : ℕ) → T (bit d i) → T (bit b i)) → (i : ℕ) → T (bit (bit_and d (d - 1)) i) → T (bit b i)
-  part-next d p h k i t = k i (and_first (bit d i) (not (eqb i (lowest d))) (subst T (cleared 64 d i p h) t))
+  part_next : (d : ℕ) → 0 < d → d < 2 ^ 64 → ((i : ℕ) → T (bit d i) → T (bit b i)) → (i : ℕ) → T (bit (bit_and d (d - 1)) i) → T (bit b i)
+  part_next d p h k i t = k i (and_first (bit d i) (not (eqb i (lowest d))) (subst T (cleared 64 d i p h) t))
 
-  module _ (h : Stamps of-triples z g b xs₀) where
+  module _ (h : Stamps of_triples z g b xs₀) where
     -- the next cell, counted from the first of the symbol
-    module _ {first row : ℕ} (first-is : first ≡ g * z.states) (row_is : row ≡ z.states * z.symbols) (d : ℕ) (xs : List ℕ) (p : 0 < d) (l : Left of-triples z k g b xs₀ d xs) where
+    module _ {first row : ℕ} (first-is : first ≡ g * z.states) (row_is : row ≡ z.states * z.symbols) (d : ℕ) (xs : List ℕ) (p : 0 < d) (l : Left of_triples z k g b xs₀ d xs) where
       inside : (lowest d / 8 < z.states) × (lowest d % 8 < z.states)
       inside = h.inside (lowest d) (l.part (lowest d) (lowest_set 64 d p l.small))
 
       long : z.states * z.symbols * z.states ≤ length xs
       long = omega (arith, h.long, l.as_long)
 
-      cell-is : first + lowest d / 8 * row + lowest d % 8 ≡ tripleCell z.symbols z.states (lowest d / 8) g (lowest d % 8)
-      cell-is = omega (arith, first-is, ap (λ r. lowest d / 8 * r) (row_is ∙ mul_comm z.states z.symbols), mul_assoc (lowest d / 8) z.symbols z.states, add-mul (lowest d / 8 * z.symbols) g z.states)
+      cell_is : first + lowest d / 8 * row + lowest d % 8 ≡ triple_cell z.symbols z.states (lowest d / 8) g (lowest d % 8)
+      cell_is = omega (arith, first-is, ap (λ r. lowest d / 8 * r) (row_is ∙ mul_comm z.states z.symbols), mul_assoc (lowest d / 8) z.symbols z.states, add-mul (lowest d / 8 * z.symbols) g z.states)
 
       pub cell_in : first + lowest d / 8 * row + lowest d % 8 < length xs
-      cell_in = omega (arith, cell-is, digits_lt (digits_lt inside.0 h.symbol) inside.1, long)
+      cell_in = omega (arith, cell_is, digits_lt (digits_lt inside.0 h.symbol) inside.1, long)
 
-      put_is : set xs (first + lowest d / 8 * row + lowest d % 8) k ≡ putTriple z.symbols z.states xs (lowest d / 8) g (lowest d % 8) k
-      put_is = rw (triple-inside inside.0 h.symbol inside.1) (ap (λ n. set xs n k) cell-is)
+      put_is : set xs (first + lowest d / 8 * row + lowest d % 8) k ≡ put_triple z.symbols z.states xs (lowest d / 8) g (lowest d % 8) k
+      put_is = rw (triple_inside inside.0 h.symbol inside.1) (ap (λ n. set xs n k) cell_is)
 
-      pub triples-next : Left of-triples z k g b xs₀ (bit_and d (d - 1)) (set xs (first + lowest d / 8 * row + lowest d % 8) k)
-      triples-next =
+      pub triples_next : Left of_triples z k g b xs₀ (bit_and d (d - 1)) (set xs (first + lowest d / 8 * row + lowest d % 8) k)
+      triples_next =
           let (i, j) = inside in
-          subst⁻¹ (Left of-triples z k g b xs₀ (bit_and d (d - 1))) put_is
+          subst⁻¹ (Left of_triples z k g b xs₀ (bit_and d (d - 1))) put_is
           record {
-            small = omega (arith, cleared-less d p, l.small);
-            part = part-next d p l.small l.part;
-            is = ap (stamped k g (bit_and d (d - 1))) (store-triple i h.symbol j k xs [] long) ∙ sym (stamp-step k g d p l.small (view_of of-triples z xs)) ∙ l.is;
-            as_long = length-triple i h.symbol j k xs ∙ l.as_long;
-            past = past-triple i h.symbol j k xs ∙ l.past;
+            small = omega (arith, cleared_less d p, l.small);
+            part = part_next d p l.small l.part;
+            is = ap (stamped k g (bit_and d (d - 1))) (store_triple i h.symbol j k xs [] long) ∙ sym (stamp_step k g d p l.small (view_of of_triples z xs)) ∙ l.is;
+            as_long = length_triple i h.symbol j k xs ∙ l.as_long;
+            past = past_triple i h.symbol j k xs ∙ l.past;
           }
 
-    pub triples-last : b < 2 ^ 64 → (d : ℕ) (xs : List ℕ) → d ≡ 0 → Left of-triples z k g b xs₀ d xs
-        → Became of-triples z xs₀ (ranked k (named of-triples (alone g b)) (view_of of-triples z xs₀)) xs
-    triples-last s d xs e l = record {
-      is = sym (stamp-none k g (view_of of-triples z xs)) ∙ ap (λ n. stamped k g n (view_of of-triples z xs)) (sym e) ∙ l.is ∙ stamped-is k g b (word b s) (view_of of-triples z xs₀);
+    pub triples_last : b < 2 ^ 64 → (d : ℕ) (xs : List ℕ) → d ≡ 0 → Left of_triples z k g b xs₀ d xs
+        → Became of_triples z xs₀ (ranked k (named of_triples (alone g b)) (view_of of_triples z xs₀)) xs
+    triples_last s d xs e l = record {
+      is = sym (stamp_none k g (view_of of_triples z xs)) ∙ ap (λ n. stamped k g n (view_of of_triples z xs)) (sym e) ∙ l.is ∙ stamped_is k g b (word b s) (view_of of_triples z xs₀);
       as_long = l.as_long;
       past = l.past;
     }
 
-  module _ (h : Stamps of-heads z g b xs₀) where
-    pub heads-next : (d : ℕ) (xs xs' : List ℕ) → 0 < d → Left of-heads z k g b xs₀ d xs → xs' ≡ putHead z.symbols z.states xs (lowest d) g k
-        → Left of-heads z k g b xs₀ (bit_and d (d - 1)) xs'
-    heads-next d xs xs' p l w =
+  module _ (h : Stamps of_heads z g b xs₀) where
+    pub heads_next : (d : ℕ) (xs xs' : List ℕ) → 0 < d → Left of_heads z k g b xs₀ d xs → xs' ≡ put_head z.symbols z.states xs (lowest d) g k
+        → Left of_heads z k g b xs₀ (bit_and d (d - 1)) xs'
+    heads_next d xs xs' p l w =
         let (_, i) = h.inside (lowest d) (l.part (lowest d) (lowest_set 64 d p l.small)) in
         let long : z.states * z.symbols ≤ length xs = omega (arith, h.long, l.as_long) in
-        subst⁻¹ (Left of-heads z k g b xs₀ (bit_and d (d - 1))) w
+        subst⁻¹ (Left of_heads z k g b xs₀ (bit_and d (d - 1))) w
         record {
-          small = omega (arith, cleared-less d p, l.small);
-          part = part-next d p l.small l.part;
-          is = ap (stampedHeads k g (bit_and d (d - 1))) (store-head i h.symbol k xs [] long) ∙ sym (heads-step k g d p l.small (view_of of-heads z xs)) ∙ l.is;
-          as_long = length-head i h.symbol k xs ∙ l.as_long;
+          small = omega (arith, cleared_less d p, l.small);
+          part = part_next d p l.small l.part;
+          is = ap (stamped_heads k g (bit_and d (d - 1))) (store_head i h.symbol k xs [] long) ∙ sym (heads_step k g d p l.small (view_of of_heads z xs)) ∙ l.is;
+          as_long = length_head i h.symbol k xs ∙ l.as_long;
           past = past_head i h.symbol k xs ∙ l.past;
         }
 
-    pub heads-last : (d : ℕ) (xs : List ℕ) → d ≡ 0 → Left of-heads z k g b xs₀ d xs
-        → Became of-heads z xs₀ (ranked k (named of-heads (alone g b)) (view_of of-heads z xs₀)) xs
-    heads-last d xs e l = record {
-      is = sym (heads-none k g (view_of of-heads z xs)) ∙ ap (λ n. stampedHeads k g n (view_of of-heads z xs)) (sym e) ∙ l.is
-          ∙ heads-are k g b (λ i t. (h.inside i t).0) (view_of of-heads z xs₀);
+    pub heads_last : (d : ℕ) (xs : List ℕ) → d ≡ 0 → Left of_heads z k g b xs₀ d xs
+        → Became of_heads z xs₀ (ranked k (named of_heads (alone g b)) (view_of of_heads z xs₀)) xs
+    heads_last d xs e l = record {
+      is = sym (heads_none k g (view_of of_heads z xs)) ∙ ap (λ n. stamped_heads k g n (view_of of_heads z xs)) (sym e) ∙ l.is
+          ∙ heads_are k g b (λ i t. (h.inside i t).0) (view_of of_heads z xs₀);
       as_long = l.as_long;
       past = l.past;
     }

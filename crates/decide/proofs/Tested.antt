@@ -5,59 +5,59 @@ use Prim.Native.Nat.{ℕ}
 use lib.ListN.{length}
 use Rattle.model.specs.declared.Model.{Model}
 use Rattle.model.specs.declared.Shape.{Shape}
-use Rattle.lent.specs.Lending.{shapeIn, ofLent, modelIn}
-use Rattle.steps.specs.Steps.{classSteps}
+use Rattle.lent.specs.Lending.{shape_in, of_lent, model_in}
+use Rattle.steps.specs.Steps.{class_steps}
 use Rattle.fitting.specs.declared.Fit.{Fit}
-use Rattle.fitting.specs.Fits.{fitOf, Fits}
-use Rattle.fitting.proofs.Tested.{is-invalid, is-short, is-well, tested-well}
+use Rattle.fitting.specs.Fits.{fit_of, Fits}
+use Rattle.fitting.proofs.Tested.{is_invalid, is_short, is_well, tested_well}
 use Rattle.decide.specs.declared.Decision.{Decision}
 use Rattle.decide.specs.declared.Decision.TheVariants.{Invalid, Short}
-use Rattle.decide.specs.Decided.{decision, headsLeft, triplesLeft, Decided}
+use Rattle.decide.specs.Decided.{decision, heads_left, triples_left, Decided}
 use Rattle.decide.specs.Ran.{Able, Ran}
 
 -- f is what the model and the arrays were measured as
-module _ (m : Model) (budget : ℕ) (hs ts : List ℕ) {f : Fit} (measured : f ≡ fitOf m (length hs) (length ts)) where
+module _ (m : Model) (budget : ℕ) (hs ts : List ℕ) {f : Fit} (measured : f ≡ fit_of m (length hs) (length ts)) where
   pub invalid : f.refusal ≡ 6 → Decided m budget hs ts Invalid hs ts
-  unfolding decision headsLeft triplesLeft
+  unfolding decision heads_left triples_left
   invalid n = record {
-    answer = sym (is-invalid m (length hs) (length ts) measured n _ _ _);
-    heads = sym (is-invalid m (length hs) (length ts) measured n _ _ _);
-    triples = sym (is-invalid m (length hs) (length ts) measured n _ _ _);
+    answer = sym (is_invalid m (length hs) (length ts) measured n _ _ _);
+    heads = sym (is_invalid m (length hs) (length ts) measured n _ _ _);
+    triples = sym (is_invalid m (length hs) (length ts) measured n _ _ _);
   }
 
   pub short : f.refusal ≡ 7 → Decided m budget hs ts Short hs ts
-  unfolding decision headsLeft triplesLeft
+  unfolding decision heads_left triples_left
   short n = record {
-    answer = sym (is-short m (length hs) (length ts) measured n _ _ _);
-    heads = sym (is-short m (length hs) (length ts) measured n _ _ _);
-    triples = sym (is-short m (length hs) (length ts) measured n _ _ _);
+    answer = sym (is_short m (length hs) (length ts) measured n _ _ _);
+    heads = sym (is_short m (length hs) (length ts) measured n _ _ _);
+    triples = sym (is_short m (length hs) (length ts) measured n _ _ _);
   }
 
   module _ (p : f.refusal ≡ 6 → ⊥) (q : f.refusal ≡ 7 → ⊥) where
     fits : Fits m (length hs) (length ts)
-    fits = is-well m (length hs) (length ts) measured p q
+    fits = is_well m (length hs) (length ts) measured p q
 
     pub able : Able m hs ts
-    able = let w = fits in record { valid-model = w.valid-model; heads-long = w.heads-there; triples-long = w.triples-there }
+    able = let w = fits in record { valid_model = w.valid_model; heads_long = w.heads_there; triples_long = w.triples_there }
 
     pub done : {r : Decision} {hs' ts' : List ℕ} → Ran m budget hs ts r hs' ts' → Decided m budget hs ts r hs' ts'
-    unfolding decision headsLeft triplesLeft
+    unfolding decision heads_left triples_left
     done a = record {
-      answer = a.answer ∙ sym (tested-well m (length hs) (length ts) fits _ _ _);
-      heads = a.heads ∙ sym (tested-well m (length hs) (length ts) fits _ _ _);
-      triples = a.triples ∙ sym (tested-well m (length hs) (length ts) fits _ _ _);
+      answer = a.answer ∙ sym (tested_well m (length hs) (length ts) fits _ _ _);
+      heads = a.heads ∙ sym (tested_well m (length hs) (length ts) fits _ _ _);
+      triples = a.triples ∙ sym (tested_well m (length hs) (length ts) fits _ _ _);
     }
 
 -- the lent model is that of the shape that was read
-module _ (cells : List ℕ) {s : Shape} (read : s ≡ shapeIn cells) (hs ts : List ℕ) where
-  pub able-read : Able (modelIn cells) hs ts → Able (ofLent s cells) hs ts
-  unfolding modelIn
-  able-read = subst⁻¹ (λ (s : Shape). Able (ofLent s cells) hs ts) read
+module _ (cells : List ℕ) {s : Shape} (read : s ≡ shape_in cells) (hs ts : List ℕ) where
+  pub able_read : Able (model_in cells) hs ts → Able (of_lent s cells) hs ts
+  unfolding model_in
+  able_read = subst⁻¹ (λ (s : Shape). Able (of_lent s cells) hs ts) read
 
-  pub ran-read : {budget : ℕ} {r : Decision} {hs' ts' : List ℕ} → Ran (ofLent s cells) budget hs ts r hs' ts' → Ran (modelIn cells) budget hs ts r hs' ts'
-  unfolding modelIn
-  ran-read {budget} {r} {hs'} {ts'} = subst (λ (s : Shape). Ran (ofLent s cells) budget hs ts r hs' ts') read
+  pub ran_read : {budget : ℕ} {r : Decision} {hs' ts' : List ℕ} → Ran (of_lent s cells) budget hs ts r hs' ts' → Ran (model_in cells) budget hs ts r hs' ts'
+  unfolding model_in
+  ran_read {budget} {r} {hs'} {ts'} = subst (λ (s : Shape). Ran (of_lent s cells) budget hs ts r hs' ts') read
 
-pub steps-read : (cells : List ℕ) {s : Shape} → s ≡ shapeIn cells → classSteps (ofLent s cells) ≡ classSteps (modelIn cells)
-unfolding modelIn
-steps-read cells read = ap (λ (s : Shape). classSteps (ofLent s cells)) read
+pub steps_read : (cells : List ℕ) {s : Shape} → s ≡ shape_in cells → class_steps (of_lent s cells) ≡ class_steps (model_in cells)
+unfolding model_in
+steps_read cells read = ap (λ (s : Shape). class_steps (of_lent s cells)) read

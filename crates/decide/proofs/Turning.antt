@@ -14,47 +14,47 @@ use Rattle.product.specs.Rounds.{held}
 use Rattle.product.specs.Verdict.{adds}
 use Rattle.product.proofs.Lists.{and_left, and_right, both, or_cases, any_of}
 use Rattle.product.proofs.Lists
-use Rattle.product.proofs.Range.{held-within, held-cell}
+use Rattle.product.proofs.Range.{held_within, held_cell}
 use Rattle.table.specs.declared.Size.{Size}
 use Rattle.bits.specs.Bit.{bit}
-use Rattle.bits.proofs.Bit.{bit-or, bit-zero}
-use Rattle.bits.proofs.Some.{has-bit}
+use Rattle.bits.proofs.Bit.{bit_or_lem, bit_zero}
+use Rattle.bits.proofs.Some.{has_bit}
 use Rattle.decide.specs.declared.Next.{Next}
 use Rattle.decide.specs.Standing.{Begins, Ends}
 use Rattle.decide.specs.Turn.{Uses, Chosen, After}
-use Rattle.decide.proofs.Choosing.{sets-next}
+use Rattle.decide.proofs.Choosing.{sets_next}
 
 module _ {p : Product} {z : Size} {n : ℕ} {wt wh rs tg by e hd hs ts : List ℕ} (b : Begins p z n wt wh rs tg by e hd hs ts)
     {ce ch : ℕ} {by' e' hd' hs' ts' : List ℕ} (s : Ends p z n rs tg hs ts ce ch by' e' hd' hs' ts') where
-  pub triples-low : (g : ℕ) → T (bit ce g) → g < 32
-  triples-low g t =
-      let (q, x, a, _) = s.triples-fresh g t in
-      let (_, i, _) = held-within p b.arrays.in-range (suc n) (triple q g x) a in
-      omega (arith, i, b.arrays.symbols-are, b.standing.triples-room.few)
+  pub triples_low : (g : ℕ) → T (bit ce g) → g < 32
+  triples_low g t =
+      let (q, x, a, _) = s.triples_fresh g t in
+      let (_, i, _) = held_within p b.arrays.in_range (suc n) (triple q g x) a in
+      omega (arith, i, b.arrays.symbols_are, b.standing.triples_room.few)
 
-  pub heads-low : (g : ℕ) → T (bit ch g) → g < 32
-  heads-low g t =
-      let (q, a, _) = s.heads-fresh g t in
-      let (_, i) = held-within p b.arrays.in-range (suc n) (head q g) a in
-      omega (arith, i, b.arrays.symbols-are, b.standing.triples-room.few)
+  pub heads_low : (g : ℕ) → T (bit ch g) → g < 32
+  heads_low g t =
+      let (q, a, _) = s.heads_fresh g t in
+      let (_, i) = held_within p b.arrays.in_range (suc n) (head q g) a in
+      omega (arith, i, b.arrays.symbols_are, b.standing.triples_room.few)
 
   added : (f : Fact) → T (held p (suc n) f) → T (not (held p n f)) → T (adds p (suc n))
   unfolding adds
   added f a c =
-      any_of (λ f. not (held p n f) && held p (suc n) f) (cells p) f (held-cell p b.arrays.in-range (suc n) f a) (both (not (held p n f)) (held p (suc n) f) c a)
+      any_of (λ f. not (held p n f) && held p (suc n) f) (cells p) f (held_cell p b.arrays.in_range (suc n) f a) (both (not (held p n f)) (held p (suc n) f) c a)
 
   busy : (bit_or ce ch ≡ 0 → ⊥) → T (adds p (suc n))
   busy k =
-      let (g, t) = has-bit (bit_or ce ch) k in
-      ⊎_elim (λ t. let (q, x, a, c) = s.triples-fresh g t in added (triple q g x) a c) (λ t. let (q, a, c) = s.heads-fresh g t in added (head q g) a c)
-      (or_cases (bit ce g) (bit ch g) (subst T (bit-or ce ch g) t))
+      let (g, t) = has_bit (bit_or ce ch) k in
+      ⊎_elim (λ t. let (q, x, a, c) = s.triples_fresh g t in added (triple q g x) a c) (λ t. let (q, a, c) = s.heads_fresh g t in added (head q g) a c)
+      (or_cases (bit ce g) (bit ch g) (subst T (bit_or_lem ce ch g) t))
 
   idle : bit_or ce ch ≡ 0 → T (not (adds p (suc n)))
   unfolding adds
   idle k = go (any (λ f. not (held p n f) && held p (suc n) f) (cells p)) refl
     where
       none : (g : ℕ) → (bit ce g || bit ch g) ≡ false
-      none g = sym (bit-or ce ch g) ∙ ap (λ d. bit d g) k ∙ bit-zero g
+      none g = sym (bit_or_lem ce ch g) ∙ ap (λ d. bit d g) k ∙ bit_zero g
 
       left : (a b : Bool) → a || b ≡ false → a ≡ false
       left false b x = refl
@@ -65,8 +65,8 @@ module _ {p : Product} {z : Size} {n : ℕ} {wt wh rs tg by e hd hs ts : List �
       right true b x = absurd (subst T x tt)
 
       still : (f : Fact) → T (held p (suc n) f) → T (held p n f)
-      still (head q g) t = s.heads-quiet q g (right (bit ce g) (bit ch g) (none g)) t
-      still (triple q g x) t = s.triples-quiet q g x (left (bit ce g) (bit ch g) (none g)) t
+      still (head q g) t = s.heads_quiet q g (right (bit ce g) (bit ch g) (none g)) t
+      still (triple q g x) t = s.triples_quiet q g x (left (bit ce g) (bit ch g) (none g)) t
 
       go : (c : Bool) → any (λ f. not (held p n f) && held p (suc n) f) (cells p) ≡ c → T (not c)
       go false x = tt
@@ -79,15 +79,15 @@ module _ {p : Product} {z : Size} {n : ℕ} {wt wh rs tg by e hd hs ts : List �
     after_turn = record {
       begins = record {
         arrays = b.arrays;
-        sets = sets-next p b.arrays.in-range b.arrays.frame.few-rules us U n ce ch triples-low heads-low
-            record { triples = s.triples-quiet; heads = s.heads-quiet } c.triples c.returned c.heads;
+        sets = sets_next p b.arrays.in_range b.arrays.frame.few_rules us U n ce ch triples_low heads_low
+            record { triples = s.triples_quiet; heads = s.heads_quiet } c.triples c.returned c.heads;
         stored = s.stored;
         standing = s.standing;
       };
-      triples-kept = s.triples-kept;
-      heads-kept = s.heads-kept;
-      idle = λ x. idle (sym c.more-is ∙ x);
-      busy = λ x. busy (λ y. x (c.more-is ∙ y));
-      low = λ g u. heads-low g (subst (λ d. T (bit d g)) c.changed-is u);
-      quiet = λ q g u. s.heads-quiet q g (ap (λ d. bit d g) (sym c.changed-is) ∙ u);
+      triples_kept = s.triples_kept;
+      heads_kept = s.heads_kept;
+      idle = λ x. idle (sym c.more_is ∙ x);
+      busy = λ x. busy (λ y. x (c.more_is ∙ y));
+      low = λ g u. heads_low g (subst (λ d. T (bit d g)) c.changed_is u);
+      quiet = λ q g u. s.heads_quiet q g (ap (λ d. bit d g) (sym c.changed_is) ∙ u);
     }

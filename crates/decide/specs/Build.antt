@@ -2,7 +2,7 @@
 use Rattle.std.specs.Prelude.{Bool, ◌&&◌, ◌||◌, List, ◌⊎◌, ◌≡◌, ℕ, ◌*◌, ◌%◌, ◌^◌, ◌<◌, T, eqb, ltb, length}
 use Rattle.bits.specs.Bit.{bit}
 use Rattle.model.specs.declared.Shape.{Shape}
-use Rattle.steps.specs.Rows.{kind_at, rowRule}
+use Rattle.steps.specs.Rows.{kind_at, row_rule}
 use Rattle.decide.specs.declared.Goal.{Goal}
 use Rattle.decide.specs.declared.Next.{Next}
 use Rattle.decide.specs.Sets.{member, chosen}
@@ -12,13 +12,13 @@ use Rattle.decide.specs.Turn.{UsesOf, Collected}
 -- rule r was put into the sets of what it needs, and no other rule into any; and the first n rules
 pub record UsesPut (rs : List ℕ) (r : ℕ) (us us' : List ℕ) : Type 0 where
   pub long : length us' ≡ 384
-  pub there : UsesOf us' r (rowRule rs r)
+  pub there : UsesOf us' r (row_rule rs r)
   pub kept : (s x : ℕ) → x < 256 → T (member us s x) → T (member us' s x)
   pub only : (s x : ℕ) → x < 256 → T (member us' s x) → T (member us s x) ⊎ (r ≡ x)
 
 pub record UsesAll (rs : List ℕ) (n : ℕ) (us : List ℕ) : Type 0 where
   pub long : length us ≡ 384
-  pub there : (r : ℕ) → r < n → UsesOf us r (rowRule rs r)
+  pub there : (r : ℕ) → r < n → UsesOf us r (row_rule rs r)
   pub only : (s r : ℕ) → r < 256 → T (member us s r) → r < n
 
 -- rule r, if it is an exit; and the exits of the first n rules
@@ -42,13 +42,13 @@ pub record RulesSorted (rs : List ℕ) (n : ℕ) (us w : List ℕ) : Type 0 wher
 -- the rules of the first round: the exits, and those that need the head of the start symbol g
 pub record First (rs : List ℕ) (n g : ℕ) (us : List ℕ) (t : Next) : Type 0 where
   pub uses : UsesAll rs n us
-  pub more-is : t.more ≡ 1
-  pub changed-is : t.changed ≡ (1 * 2 ^ g) % 2 ^ 64
+  pub more_is : t.more ≡ 1
+  pub changed_is : t.changed ≡ (1 * 2 ^ g) % 2 ^ 64
   pub exits : Exits rs n t.wt
   pub heads : Collected us 64 t.changed (zeros 4) t.wh
 
 -- the final states, and the start
 pub record GoalOf (s : Shape) (final : ℕ → Bool) (goal : Goal) : Type 0 where
-  pub finals-are : (x : ℕ) → bit goal.finals x ≡ ltb x 8 && final x
-  pub state-is : goal.state ≡ s.startstate
-  pub symbol-is : goal.symbol ≡ s.startsymbol
+  pub finals_are : (x : ℕ) → bit goal.finals x ≡ ltb x 8 && final x
+  pub state_is : goal.state ≡ s.startstate
+  pub symbol_is : goal.symbol ≡ s.startsymbol

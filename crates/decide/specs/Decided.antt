@@ -5,10 +5,10 @@ use Rattle.product.specs.Answer.{Answer, answered, refused}
 use Rattle.product.specs.Verdict as product
 use Rattle.product.specs.Verdict.{Verdict, violation, safe}
 use Rattle.product.specs.Table.{left}
-use Rattle.table.specs.Cells.{headsOf, triplesOf}
+use Rattle.table.specs.Cells.{heads_of, triples_of}
 use Rattle.model.specs.declared.Model.{Model}
-use Rattle.model.specs.Model.{productOf}
-use Rattle.fitting.specs.Fits.{headsOf as headCount, triplesOf as tripleCount, tested, guarded}
+use Rattle.model.specs.Model.{product_of}
+use Rattle.fitting.specs.Fits.{heads_of as head_count, triples_of as triple_count, tested, guarded}
 use Rattle.decide.specs.declared.Decision.{Decision}
 use Rattle.decide.specs.declared.Decision.TheVariants.{Violation, Safe, Invalid, Short, Spent}
 
@@ -27,17 +27,17 @@ within budget (some v) = answered v
 
 -- 6, then 7, and then the answer under the budget; `heads` and `triples` are the lengths of the arrays
 unfoldable pub decision : Model → (budget heads triples : ℕ) → Answer Verdict
-decision m budget heads triples = guarded m heads triples (within budget (product.answer (productOf m) budget))
+decision m budget heads triples = guarded m heads triples (within budget (product.answer (product_of m) budget))
 
 -- the table that is left, unless the model or the arrays are refused: every cell past it is as it was
-unfoldable pub headsLeft : Model → (budget : ℕ) → (hs ts : List ℕ) → List ℕ
-headsLeft m budget hs ts = tested m (length hs) (length ts) hs hs (headsOf m.symbols m.states (left (productOf m) budget) ++ drop (headCount m) hs)
+unfoldable pub heads_left : Model → (budget : ℕ) → (hs ts : List ℕ) → List ℕ
+heads_left m budget hs ts = tested m (length hs) (length ts) hs hs (heads_of m.symbols m.states (left (product_of m) budget) ++ drop (head_count m) hs)
 
-unfoldable pub triplesLeft : Model → (budget : ℕ) → (hs ts : List ℕ) → List ℕ
-triplesLeft m budget hs ts = tested m (length hs) (length ts) ts ts (triplesOf m.symbols m.states (left (productOf m) budget) ++ drop (tripleCount m) ts)
+unfoldable pub triples_left : Model → (budget : ℕ) → (hs ts : List ℕ) → List ℕ
+triples_left m budget hs ts = tested m (length hs) (length ts) ts ts (triples_of m.symbols m.states (left (product_of m) budget) ++ drop (triple_count m) ts)
 
 -- the contract: the answer r, and the arrays hs' and ts' afterwards
 pub record Decided (m : Model) (budget : ℕ) (hs ts : List ℕ) (r : Decision) (hs' ts' : List ℕ) : Type 0 where
   pub answer : meaning r ≡ decision m budget (length hs) (length ts)
-  pub heads : hs' ≡ headsLeft m budget hs ts
-  pub triples : ts' ≡ triplesLeft m budget hs ts
+  pub heads : hs' ≡ heads_left m budget hs ts
+  pub triples : ts' ≡ triples_left m budget hs ts

@@ -14,28 +14,28 @@ use Rattle.decide.specs.declared.Next.{Next}
 use Rattle.decide.specs.declared.rounds.Outcome.{Outcome}
 use Rattle.decide.specs.declared.rounds.Outcome.TheVariants.{Goes, Ends}
 use Rattle.decide.specs.Decided.{meaning, within}
-use Rattle.decide.specs.Stamp.{of-heads, of-triples, view_of}
+use Rattle.decide.specs.Stamp.{of_heads, of_triples, view_of}
 use Rattle.decide.specs.Gather.{zeros}
 use Rattle.decide.specs.Standing.{Begins, Kept}
 use Rattle.decide.specs.Turn.{Uses}
 
 -- the final states in which a symbol that changed has a head; and those into which the symbol g is erased from the state q
-unfoldable pub finalHeads : (fins changed : ℕ) → (hd : List ℕ) → (x : ℕ) → Bool
-finalHeads fins changed hd x = some 64 (λ s. bit changed s && (bit (get_or hd s 0) x && bit fins x))
+unfoldable pub final_heads : (fins changed : ℕ) → (hd : List ℕ) → (x : ℕ) → Bool
+final_heads fins changed hd x = some 64 (λ s. bit changed s && (bit (get_or hd s 0) x && bit fins x))
 
 unfoldable pub violations : (fins changed : ℕ) → (hd e : List ℕ) → (q g x : ℕ) → Bool
-violations fins changed hd e q g x = (bit (get_or e g 0) (x + 8 * q) && bit fins x) || finalHeads fins changed hd x
+violations fins changed hd e q g x = (bit (get_or e g 0) (x + 8 * q) && bit fins x) || final_heads fins changed hd x
 
 -- after round n: `seen` has the final states of violating facts, and the three tests of it, in this order
 pub data Tested (n budget more seen : ℕ) : Outcome → Type 0 where
   violates : (seen ≡ 0 → ⊥) → Tested n budget more seen (Ends (Violation n))
-  is-safe : seen ≡ 0 → more ≡ 0 → Tested n budget more seen (Ends (Safe n))
-  is-spent : seen ≡ 0 → (more ≡ 0 → ⊥) → budget ≤ n → Tested n budget more seen (Ends (Spent budget))
+  is_safe : seen ≡ 0 → more ≡ 0 → Tested n budget more seen (Ends (Safe n))
+  is_spent : seen ≡ 0 → (more ≡ 0 → ⊥) → budget ≤ n → Tested n budget more seen (Ends (Spent budget))
   goes_on : seen ≡ 0 → (more ≡ 0 → ⊥) → n < budget → Tested n budget more seen Goes
 
 pub record Judged (goal : Goal) (n budget : ℕ) (t : Next) (hd e : List ℕ) (o : Outcome) : Type 0 where
   pub seen : ℕ
-  pub seen-is : (x : ℕ) → bit seen x ≡ violations goal.finals t.changed hd e goal.state goal.symbol x
+  pub seen_is : (x : ℕ) → bit seen x ≡ violations goal.finals t.changed hd e goal.state goal.symbol x
   pub tested : Tested n budget t.more seen o
 
 -- the goal has the final states of the product, and its start
@@ -43,20 +43,20 @@ pub record Goals (p : Product) (goal : Goal) : Type 0 where
   pub low : (x : ℕ) → T (bit goal.finals x) → x < 8
   pub is : (x : ℕ) → T (bit goal.finals x) → T (p.final x)
   pub all : (x : ℕ) → x < 8 → T (p.final x) → T (bit goal.finals x)
-  pub state-is : goal.state ≡ p.start-state
-  pub symbol-is : goal.symbol ≡ p.start-symbol
+  pub state_is : goal.state ≡ p.start_state
+  pub symbol_is : goal.symbol ≡ p.start_symbol
 
 -- the rows of the heads at first: the start head alone
-abbrev pub startRows : Goal → List ℕ
-startRows goal = set (zeros 32) goal.symbol ((1 * 2 ^ goal.state) % 2 ^ 64)
+abbrev pub start_rows : Goal → List ℕ
+start_rows goal = set (zeros 32) goal.symbol ((1 * 2 ^ goal.state) % 2 ^ 64)
 
 -- round 0 stands, and t has the rules for the first round
 pub record Starts (p : Product) (z : Size) (goal : Goal) (t : Next) (rs tg us hs ts : List ℕ) : Type 0 where
-  pub begins : Begins p z 0 t.wt t.wh rs tg (zeros 256) (zeros 32) (startRows goal) hs ts
+  pub begins : Begins p z 0 t.wt t.wh rs tg (zeros 256) (zeros 32) (start_rows goal) hs ts
   pub uses : Uses p us
   pub goals : Goals p goal
-  pub more-is : t.more ≡ 1
-  pub changed-is : (x : ℕ) → bit t.changed x ≡ eqb goal.symbol x
+  pub more_is : t.more ≡ 1
+  pub changed_is : (x : ℕ) → bit t.changed x ≡ eqb goal.symbol x
 
 pub record Driving (z : Size) (goal : Goal) (t : Next) (rs tg us hs ts : List ℕ) : Type 0 where
   pub product : Product
@@ -64,11 +64,11 @@ pub record Driving (z : Size) (goal : Goal) (t : Next) (rs tg us hs ts : List �
 
 -- the answer under the budget, and the ranks after its rounds
 pub record Answers (p : Product) (z : Size) (hs ts : List ℕ) (budget : ℕ) (r : Decision) (hs' ts' : List ℕ) : Type 0 where
-  pub answer-is : meaning r ≡ within budget (answer p budget)
-  pub triples-ranked : (q g x : ℕ) → view_of of-triples z ts' (triple q g x) ≡ ranks p (ran budget (answer p budget)) (triple q g x)
-  pub heads-ranked : (q g : ℕ) → view_of of-heads z hs' (head q g) ≡ ranks p (ran budget (answer p budget)) (head q g)
-  pub triples-kept : Kept of-triples z ts ts'
-  pub heads-kept : Kept of-heads z hs hs'
+  pub answer_is : meaning r ≡ within budget (answer p budget)
+  pub triples_ranked : (q g x : ℕ) → view_of of_triples z ts' (triple q g x) ≡ ranks p (ran budget (answer p budget)) (triple q g x)
+  pub heads_ranked : (q g : ℕ) → view_of of_heads z hs' (head q g) ≡ ranks p (ran budget (answer p budget)) (head q g)
+  pub triples_kept : Kept of_triples z ts ts'
+  pub heads_kept : Kept of_heads z hs hs'
 
 pub record Driven (z : Size) (goal : Goal) (t : Next) (rs tg us hs ts : List ℕ) (budget : ℕ) (r : Decision) (hs' ts' : List ℕ) : Type 0 where
   pub answers : (p : Product) → Starts p z goal t rs tg us hs ts → Answers p z hs ts budget r hs' ts'

@@ -1,7 +1,7 @@
 -- What is run after the steps of the rules of a set, gathered by class. What serves the decision's own functions. Assumes nothing.
 use Rattle.std.specs.Prelude.{false, cond, ◌&&◌, ◌||◌, List, ◌≡◌, ℕ, ◌+◌, ◌*◌, ◌%◌, ◌<◌, eqb, length, get_or, replicate}
 use Rattle.bits.specs.Matrix.{mat, mats, multiplied}
-use Rattle.steps.specs.Rows.{kind_at, class_at, overAt, underAt}
+use Rattle.steps.specs.Rows.{kind_at, class_at, over_at, under_at}
 use Rattle.decide.specs.Sets.{chosen, among}
 use Rattle.decide.specs.Stamp.{Entries}
 
@@ -12,14 +12,14 @@ rest_of kind g1 g2 e =
     (cond (eqb kind 1) (get_or e g1 0) (multiplied (get_or e g1 0) (get_or e g2 0)))
 
 unfoldable pub rest_at : List ℕ → List ℕ → ℕ → ℕ
-rest_at rs e i = rest_of (kind_at rs i) (overAt rs i) (underAt rs i) e
+rest_at rs e i = rest_of (kind_at rs i) (over_at rs i) (under_at rs i) e
 
 -- what rule i adds, and what the rules of a set add, to the matrix of class c
 abbrev pub added : (rs e : List ℕ) → ℕ → Entries
 added rs e i c q x = eqb (class_at rs i) c && mat (rest_at rs e i) q x
 
-unfoldable pub addedBy : (rs e w : List ℕ) → Entries
-addedBy rs e w c q x = among w (λ i. added rs e i c q x)
+unfoldable pub added_by : (rs e w : List ℕ) → Entries
+added_by rs e w c q x = among w (λ i. added rs e i c q x)
 
 -- the matrices took in the entries m; a class that has more stands in the set t'
 pub record Visits (m : Entries) (t by t' by' : List ℕ) : Type 0 where

@@ -3,13 +3,13 @@ use Rattle.std.specs.Prelude.{List, ◌++◌, ◌≡◌, ℕ, ◌*◌, ◌≤◌
 use Rattle.product.specs.Table.{left}
 use Rattle.product.specs.Verdict as product
 use Rattle.table.specs.declared.Size.{Size}
-use Rattle.table.specs.Cells.{headsOf, triplesOf, putHead, cleared}
+use Rattle.table.specs.Cells.{heads_of, triples_of, put_head, cleared}
 use Rattle.model.specs.declared.Model.{Model}
 use Rattle.model.specs.declared.Shape.{Shape}
-use Rattle.model.specs.Model.{productOf}
+use Rattle.model.specs.Model.{product_of}
 use Rattle.model.specs.Valid.{valid}
 use Rattle.decide.specs.declared.Decision.{Decision}
-use Rattle.fitting.specs.Fits.{headsOf as headCount, triplesOf as tripleCount}
+use Rattle.fitting.specs.Fits.{heads_of as head_count, triples_of as triple_count}
 use Rattle.decide.specs.Decided.{meaning, within}
 
 -- what a model says beside its arrays
@@ -18,17 +18,17 @@ shape_of m = record { symbols = m.symbols; states = m.states; events = m.events;
 
 -- the model is valid, and the arrays are long enough for its table
 pub record Able (m : Model) (hs ts : List ℕ) : Type 0 where
-  pub valid-model : T (valid m)
-  pub heads-long : headCount m ≤ length hs
-  pub triples-long : tripleCount m ≤ length ts
+  pub valid_model : T (valid m)
+  pub heads_long : head_count m ≤ length hs
+  pub triples_long : triple_count m ≤ length ts
 
 -- round 0 in the arrays: the start head alone
 pub record Started (z : Size) (q g : ℕ) (hs ts hs' ts' : List ℕ) : Type 0 where
-  pub heads : hs' ≡ putHead z.symbols z.states (cleared (z.states * z.symbols) hs) q g 0
+  pub heads : hs' ≡ put_head z.symbols z.states (cleared (z.states * z.symbols) hs) q g 0
   pub triples : ts' ≡ cleared (z.states * z.symbols * z.states) ts
 
 -- what the rounds then answer and leave
 pub record Ran (m : Model) (budget : ℕ) (hs ts : List ℕ) (r : Decision) (hs' ts' : List ℕ) : Type 0 where
-  pub answer : meaning r ≡ within budget (product.answer (productOf m) budget)
-  pub heads : hs' ≡ headsOf m.symbols m.states (left (productOf m) budget) ++ drop (headCount m) hs
-  pub triples : ts' ≡ triplesOf m.symbols m.states (left (productOf m) budget) ++ drop (tripleCount m) ts
+  pub answer : meaning r ≡ within budget (product.answer (product_of m) budget)
+  pub heads : hs' ≡ heads_of m.symbols m.states (left (product_of m) budget) ++ drop (head_count m) hs
+  pub triples : ts' ≡ triples_of m.symbols m.states (left (product_of m) budget) ++ drop (triple_count m) ts

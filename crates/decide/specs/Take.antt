@@ -6,8 +6,8 @@ use Rattle.bits.specs.Bit.{bit}
 use Rattle.bits.specs.Matrix.{mat, mats, multiplied}
 use Rattle.steps.specs.Steps.{symbol_of}
 use Rattle.decide.specs.Sets.{among}
-use Rattle.decide.specs.Gather.{addedBy, Gains}
-use Rattle.decide.specs.Stamp.{Sort, of-heads, of-triples, view_of, cells_of, Became, Entries, alone, named, ranked}
+use Rattle.decide.specs.Gather.{added_by, Gains}
+use Rattle.decide.specs.Stamp.{Sort, of_heads, of_triples, view_of, cells_of, Became, Entries, alone, named, ranked}
 
 -- The matrices e took in the entries m, and the table gave the new ones the rank k; w is the set of the symbols that have a new one.
 pub record Took (s : Sort) (z : Size) (k : ℕ) (m : Entries) (e xs : List ℕ) (w : ℕ) (e' xs' : List ℕ) : Type 0 where
@@ -31,35 +31,35 @@ pub record Room (s : Sort) (z : Size) (e xs : List ℕ) : Type 0 where
 
 -- the entry has a cell in the table
 abbrev pub Within : Sort → Size → (g q x : ℕ) → Type 0
-Within of-heads z g q x = (g < z.symbols) × (q ≡ 0) × (x < z.states)
-Within of-triples z g q x = (g < z.symbols) × (q < z.states) × (x < z.states)
+Within of_heads z g q x = (g < z.symbols) × (q ≡ 0) × (x < z.states)
+Within of_triples z g q x = (g < z.symbols) × (q < z.states) × (x < z.states)
 
 pub record Fits (s : Sort) (z : Size) (g m : ℕ) : Type 0 where
   pub small : g < 32
   pub inside : (q x : ℕ) → T (mat m q x) → Within s z g q x
 
 -- class c: what it gives, once through its steps, and where that goes; and the classes of a set
-unfoldable pub givenBy : (tg by : List ℕ) → (c : ℕ) → ℕ
-givenBy tg by c = multiplied (get_or tg c 0) (get_or by c 0)
+unfoldable pub given_by : (tg by : List ℕ) → (c : ℕ) → ℕ
+given_by tg by c = multiplied (get_or tg c 0) (get_or by c 0)
 
 unfoldable pub from_class : (tg by : List ℕ) → (c : ℕ) → Entries
-from_class tg by c = alone (symbol_of c) (givenBy tg by c)
+from_class tg by c = alone (symbol_of c) (given_by tg by c)
 
-unfoldable pub fromClasses : (tg by t : List ℕ) → Entries
-fromClasses tg by t g q x = among t (λ c. from_class tg by c g q x)
+unfoldable pub from_classes : (tg by t : List ℕ) → Entries
+from_classes tg by t g q x = among t (λ c. from_class tg by c g q x)
 
 abbrev pub AllFit : Size → (tg by : List ℕ) → Type 0
-AllFit z tg by = (c : ℕ) → Fits of-triples z (symbol_of c) (givenBy tg by c)
+AllFit z tg by = (c : ℕ) → Fits of_triples z (symbol_of c) (given_by tg by c)
 
 -- a round of the triples can be run, with the rules of the set wt: what they add has a cell
 pub record TriplesReady (z : Size) (wt rs tg by e ts : List ℕ) : Type 0 where
   pub few : length wt ≡ 4
   pub long : length by ≡ 256
-  pub room : Room of-triples z e ts
-  pub fit : {t by' : List ℕ} → Gains (addedBy rs e wt) by t by' → AllFit z tg by'
+  pub room : Room of_triples z e ts
+  pub fit : {t by' : List ℕ} → Gains (added_by rs e wt) by t by' → AllFit z tg by'
 
 -- the round: what the rules add is gathered, and then taken in; w is the set of the symbols that changed
 pub record TriplesDone (z : Size) (k : ℕ) (wt rs tg by e ts : List ℕ) (w : ℕ) (by' e' ts' : List ℕ) : Type 0 where
   pub touched : List ℕ
-  pub gains : Gains (addedBy rs e wt) by touched by'
-  pub took : Took of-triples z k (fromClasses tg by' touched) e ts w e' ts'
+  pub gains : Gains (added_by rs e wt) by touched by'
+  pub took : Took of_triples z k (from_classes tg by' touched) e ts w e' ts'

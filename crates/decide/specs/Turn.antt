@@ -11,7 +11,7 @@ use Rattle.bits.specs.Matrix.{some}
 use Rattle.decide.specs.declared.Next.{Next}
 use Rattle.decide.specs.Sets.{member, chosen}
 use Rattle.decide.specs.Gather.{zeros}
-use Rattle.decide.specs.Stamp.{of-heads, of-triples}
+use Rattle.decide.specs.Stamp.{of_heads, of_triples}
 use Rattle.decide.specs.Standing.{Begins, Kept}
 
 -- r stands in one of the sets from number `from` on, those of the symbols that changed
@@ -35,18 +35,18 @@ pub record Uses (p : Product) (us : List ℕ) : Type 0 where
 
 -- the rules that need what changed, by the symbols ce of new triples and ch of new heads; `more` is 0 if there are none
 pub record Chosen (us : List ℕ) (ce ch : ℕ) (t : Next) : Type 0 where
-  pub more-is : t.more ≡ bit_or ce ch
-  pub changed-is : t.changed ≡ ch
+  pub more_is : t.more ≡ bit_or ce ch
+  pub changed_is : t.changed ≡ ch
   pub triples : Collected us 0 ce (zeros 4) t.wt
-  pub by-triples : List ℕ
-  pub returned : Collected us 32 ce (zeros 4) by-triples
-  pub heads : Collected us 64 ch by-triples t.wh
+  pub by_triples : List ℕ
+  pub returned : Collected us 32 ce (zeros 4) by_triples
+  pub heads : Collected us 64 ch by_triples t.wh
 
 -- What stands after round n + 1, with enough rules for the next. `more` is 0 exactly if the round added nothing; `changed` has the symbols with a new head.
 pub record After (p : Product) (z : Size) (n : ℕ) (rs tg hs ts : List ℕ) (t : Next) (by' e' hd' hs' ts' : List ℕ) : Type 0 where
   pub begins : Begins p z (suc n) t.wt t.wh rs tg by' e' hd' hs' ts'
-  pub triples-kept : Kept of-triples z ts ts'
-  pub heads-kept : Kept of-heads z hs hs'
+  pub triples_kept : Kept of_triples z ts ts'
+  pub heads_kept : Kept of_heads z hs hs'
   pub idle : t.more ≡ 0 → T (not (adds p (suc n)))
   pub busy : (t.more ≡ 0 → ⊥) → T (adds p (suc n))
   pub low : (g : ℕ) → T (bit t.changed g) → g < 32

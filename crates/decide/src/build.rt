@@ -1,7 +1,7 @@
 // What the rounds are run on, from a model: which rules need which symbol, the rules of the first round, and the final states.
 ghost use Rattle.std.specs.Prelude.{cond, ◌&&◌, ◌≡◌, ℕ, ◌<◌, ◌≤◌, ◌^◌, ltb, length};
 ghost use Rattle.bits.specs.Bit.{bit};
-ghost use Rattle.lent.specs.Lending.{productIn};
+ghost use Rattle.lent.specs.Lending.{product_in};
 ghost use Rattle.decide.specs.Build.{RulePut, RulesSorted, First, GoalOf};
 ghost use Rattle.decide.specs.Gather.{Empty};
 
@@ -68,7 +68,7 @@ pub(crate) fn first_rules(rules: &Lent, count: usize, g: usize, us: &mut [u64; 3
 // State q as a set, if it is final.
 fn if_final(m: &Lent, q: usize) -> u64
     requires { q < 8 }
-    ensures { result ≡ cond ((productIn m.now).final q) (2 ^ q) 0 }
+    ensures { result ≡ cond ((product_in m.now).final q) (2 ^ q) 0 }
 {
     if lent::is_final(m, q) {
         return 1u64 << (q as u64);
@@ -78,7 +78,7 @@ fn if_final(m: &Lent, q: usize) -> u64
 
 // The final states.
 fn final_states(m: &Lent) -> u64
-    ensures { (x : ℕ) → bit result x ≡ ltb x 8 && (productIn m.now).final x }
+    ensures { (x : ℕ) → bit result x ≡ ltb x 8 && (product_in m.now).final x }
 {
     let mut r: u64 = 0;
     let mut q: usize = 0;
@@ -91,7 +91,7 @@ fn final_states(m: &Lent) -> u64
 
 // What is looked for in a model: its final states, from its start.
 pub(crate) fn goal_of(shape: Shape, m: &Lent) -> Goal
-    ensures { GoalOf shape (productIn m.now).final result }
+    ensures { GoalOf shape (product_in m.now).final result }
 {
     Goal {
         finals: final_states(m),

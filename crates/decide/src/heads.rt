@@ -3,10 +3,10 @@
 ghost use Rattle.std.specs.Prelude.{◌≡◌, ◌&&◌, ℕ, ◌<◌, eqb, length};
 ghost use Rattle.bits.specs.Bit.{bit};
 ghost use Rattle.steps.specs.Rows.{class_at};
-ghost use Rattle.decide.specs.Stamp.{of-heads, alone};
+ghost use Rattle.decide.specs.Stamp.{of_heads, alone};
 ghost use Rattle.decide.specs.Gather.{Empty};
 ghost use Rattle.decide.specs.Take.{Took, Room, Fits};
-ghost use Rattle.decide.specs.Show.{landing, shown, shownAll, Shows, RowsCover, ShowsAll, RowsFit, SettlesRows, HeadsReady, HeadsDone};
+ghost use Rattle.decide.specs.Show.{landing, shown, shown_all, Shows, RowsCover, ShowsAll, RowsFit, SettlesRows, HeadsReady, HeadsDone};
 
 use crate::sets::{gain, pick};
 use crate::stamps::stamp_heads;
@@ -78,7 +78,7 @@ fn show_all(
 ) -> u64
     requires set_len { length set ≡ 4 }
     requires empty { Empty 32 nh.old }
-    ensures { ShowsAll (shownAll rules.now tg.now e.now hd.now set) result nh.new }
+    ensures { ShowsAll (shown_all rules.now tg.now e.now hd.now set) result nh.new }
 {
     let mut left = set;
     let mut touched: u64 = 0;
@@ -93,9 +93,9 @@ fn show_all(
 
 // The row of symbol g takes in m, and its new heads get the rank k. Answers the set of g if there is one, and else the empty set.
 fn take_heads(size: Size, g: usize, m: u64, k: u16, hd: &mut [u64; 32], heads: &mut [u16]) -> u64
-    requires room { Room of-heads size hd.old heads.old }
-    requires fits { Fits of-heads size g m }
-    ensures { Took of-heads size k (alone g m) hd.old heads.old result hd.new heads.new }
+    requires room { Room of_heads size hd.old heads.old }
+    requires fits { Fits of_heads size g m }
+    ensures { Took of_heads size k (alone g m) hd.old heads.old result hd.new heads.new }
 {
     let new = gain(hd, g, m);
     if new == 0 {
@@ -115,7 +115,7 @@ fn settle_heads(
     heads: &mut [u16],
 ) -> u64
     requires rows_cover { RowsCover touched nh.old }
-    requires room { Room of-heads size hd.old heads.old }
+    requires room { Room of_heads size hd.old heads.old }
     requires rows_fit { RowsFit size nh.old }
     ensures { SettlesRows size k nh.old hd.old heads.old result nh.new hd.new heads.new }
 {

@@ -1,6 +1,6 @@
 // The decision: rounds over the two lent arrays until a violating fact is held, a round adds nothing, or the budget is spent.
 ghost use Rattle.std.specs.Prelude.{◌≡◌};
-ghost use Rattle.lent.specs.Lending.{shapeIn, ofLent, modelIn};
+ghost use Rattle.lent.specs.Lending.{shape_in, of_lent, model_in};
 ghost use Rattle.decide.specs.Decided.{Decided};
 ghost use Rattle.decide.specs.Ran.{Able, Started, Ran};
 
@@ -56,9 +56,9 @@ fn start(heads: &mut [u16], triples: &mut [u16], size: Size, q: usize, g: usize)
 
 // The rounds of a valid model, whose shape was asked for, in arrays that are long enough.
 fn run(shape: Shape, m: &Lent, budget: u32, heads: &mut [u16], triples: &mut [u16]) -> Decision
-    requires shape_value { shape ≡ shapeIn m.now }
-    requires able { Able (ofLent shape m.now) heads.old triples.old }
-    ensures { Ran (ofLent shape m.now) budget heads.old triples.old result heads.new triples.new }
+    requires shape_value { shape ≡ shape_in m.now }
+    requires able { Able (of_lent shape m.now) heads.old triples.old }
+    ensures { Ran (of_lent shape m.now) budget heads.old triples.old result heads.new triples.new }
 {
     let size = Size {
         symbols: shape.symbols,
@@ -74,7 +74,7 @@ fn run(shape: Shape, m: &Lent, budget: u32, heads: &mut [u16], triples: &mut [u1
 
 // Decides a model within a budget of rounds, and leaves in the arrays the ranks of the facts held. Nothing is written on 6 and 7.
 pub fn decide(m: &Lent, budget: u32, heads: &mut [u16], triples: &mut [u16]) -> Decision
-    ensures { Decided (modelIn m.now) budget heads.old triples.old result heads.new triples.new }
+    ensures { Decided (model_in m.now) budget heads.old triples.old result heads.new triples.new }
 {
     let fit = fitting::measure(m, heads.len(), triples.len());
     if fit.refusal == 6 {

@@ -1,12 +1,12 @@
 // The ranks of new facts, put into the two lent arrays.
-ghost use Rattle.decide.specs.Stamp.{of-heads, of-triples, view_of, Became, alone, named, ranked, Stamps};
+ghost use Rattle.decide.specs.Stamp.{of_heads, of_triples, view_of, Became, alone, named, ranked, Stamps};
 
 use table::{Fact, Size};
 
 // The triples of symbol g that stand in the matrix get the rank k. All have a cell, so that it need not be asked for each.
 pub(crate) fn stamp(triples: &mut [u16], size: Size, g: usize, bits: u64, k: u16)
-    requires { Stamps of-triples size g bits triples.old }
-    ensures { Became of-triples size triples.old (ranked k (named of-triples (alone g bits)) (view_of of-triples size triples.old)) triples.new }
+    requires { Stamps of_triples size g bits triples.old }
+    ensures { Became of_triples size triples.old (ranked k (named of_triples (alone g bits)) (view_of of_triples size triples.old)) triples.new }
 {
     let first = g * (size.states as usize);
     let row = table::head_count(size); // the triples of a state lie so far from those of the next
@@ -20,8 +20,8 @@ pub(crate) fn stamp(triples: &mut [u16], size: Size, g: usize, bits: u64, k: u16
 
 // The heads of symbol g that stand in the row get the rank k.
 pub(crate) fn stamp_heads(heads: &mut [u16], size: Size, g: usize, bits: u64, k: u16)
-    requires { Stamps of-heads size g bits heads.old }
-    ensures { Became of-heads size heads.old (ranked k (named of-heads (alone g bits)) (view_of of-heads size heads.old)) heads.new }
+    requires { Stamps of_heads size g bits heads.old }
+    ensures { Became of_heads size heads.old (ranked k (named of_heads (alone g bits)) (view_of of_heads size heads.old)) heads.new }
 {
     let mut d = bits;
     while d != 0 {

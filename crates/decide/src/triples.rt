@@ -4,9 +4,9 @@
 ghost use Rattle.std.specs.Prelude.{◌≡◌, ℕ, ◌+◌, ◌%◌, ◌<◌, ◌≤◌, length, get_or, set};
 ghost use Rattle.bits.specs.Matrix.{multiplied};
 ghost use Rattle.steps.specs.Steps.{symbol_of};
-ghost use Rattle.decide.specs.Stamp.{of-triples, alone};
-ghost use Rattle.decide.specs.Gather.{rest_of, added, addedBy, Visits, Gains};
-ghost use Rattle.decide.specs.Take.{Took, Room, Fits, givenBy, from_class, fromClasses, AllFit, TriplesReady, TriplesDone};
+ghost use Rattle.decide.specs.Stamp.{of_triples, alone};
+ghost use Rattle.decide.specs.Gather.{rest_of, added, added_by, Visits, Gains};
+ghost use Rattle.decide.specs.Take.{Took, Room, Fits, given_by, from_class, from_classes, AllFit, TriplesReady, TriplesDone};
 
 use crate::sets::{add, gain, pick};
 use crate::stamps::stamp;
@@ -68,7 +68,7 @@ fn visit(i: usize, rules: &Lent, e: &[u64; 32], by: &mut [u64; 256], touched: &m
 fn gather(set: [u64; 4], rules: &Lent, e: &[u64; 32], by: &mut [u64; 256]) -> [u64; 4]
     requires set_len { length set ≡ 4 }
     requires by_len { length by.old ≡ 256 }
-    ensures { Gains (addedBy rules.now e.now set) by.old result by.new }
+    ensures { Gains (added_by rules.now e.now set) by.old result by.new }
 {
     let mut left = set;
     let mut touched = [0u64; 4];
@@ -93,9 +93,9 @@ fn settle(
     triples: &mut [u16],
 ) -> u64
     requires c_bound { c < 256 }
-    requires room { Room of-triples size e.old triples.old }
-    requires fits { Fits of-triples size (symbol_of c) (givenBy tg.now by.now c) }
-    ensures { Took of-triples size k (from_class tg.now by.now c) e.old triples.old result e.new triples.new }
+    requires room { Room of_triples size e.old triples.old }
+    requires fits { Fits of_triples size (symbol_of c) (given_by tg.now by.now c) }
+    ensures { Took of_triples size k (from_class tg.now by.now c) e.old triples.old result e.new triples.new }
 {
     let m = bits::product(tg[c], by[c]);
     let g = steps::symbol_of(c);
@@ -118,9 +118,9 @@ fn settle_all(
     triples: &mut [u16],
 ) -> u64
     requires touched_len { length touched ≡ 4 }
-    requires room { Room of-triples size e.old triples.old }
+    requires room { Room of_triples size e.old triples.old }
     requires all_fit { AllFit size tg.now by.now }
-    ensures { Took of-triples size k (fromClasses tg.now by.now touched) e.old triples.old result e.new triples.new }
+    ensures { Took of_triples size k (from_classes tg.now by.now touched) e.old triples.old result e.new triples.new }
 {
     let mut left = touched;
     let mut changed: u64 = 0;

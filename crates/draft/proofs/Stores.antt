@@ -5,9 +5,9 @@ use Rattle.modelline.specs.declared.Line.{Line}
 use Rattle.limits.specs.Limits.{Fits}
 use Rattle.limits.proofs.Passed.{fits}
 use Rattle.draft.specs.Draft.{Draft}
-use Rattle.draft.specs.Lines.{countsOf, after, takeLine}
+use Rattle.draft.specs.Lines.{counts_of, after, take_line}
 
 -- a line that is taken fits, and leaves what it says
-pub gone-on : (d : Draft) (l : Line) → (takeLine d l).refusal ≡ 0 → Fits (countsOf d) l.word l.numbers × ((takeLine d l).draft ≡ after d l.word l.numbers)
-unfolding takeLine
-gone-on d l e = (fits (countsOf d) l.word l.numbers refl e, rw (eq-eqb _ 0 e))
+pub gone_on : (d : Draft) (l : Line) → (take_line d l).refusal ≡ 0 → Fits (counts_of d) l.word l.numbers × ((take_line d l).draft ≡ after d l.word l.numbers)
+unfolding take_line
+gone_on d l e = (fits (counts_of d) l.word l.numbers refl e, rw (eq-eqb _ 0 e))

@@ -13,8 +13,8 @@ use Rattle.draft.specs.declared.Outline.{Outline}
 use Rattle.draft.specs.Draft.{Draft, Taken}
 
 -- what a line is tested against
-abbrev pub countsOf : Draft → Counts
-countsOf d = record {
+abbrev pub counts_of : Draft → Counts
+counts_of d = record {
   symbols = d.model.symbols;
   states = d.model.states;
   events = d.model.events;
@@ -24,19 +24,19 @@ countsOf d = record {
 }
 
 -- what is known of a draft beside its rules, moves and truths
-abbrev pub outlineOf : Draft → Outline
-outlineOf d = record { counts = countsOf d; startstate = d.model.startstate; startsymbol = d.model.startsymbol }
+abbrev pub outline_of : Draft → Outline
+outline_of d = record { counts = counts_of d; startstate = d.model.startstate; startsymbol = d.model.startsymbol }
 
 -- the numbers of a row that begins at i
-abbrev pub threeAt : List ℕ → ℕ → (a b c : ℕ) → List ℕ
-threeAt rows i a b c = set (set (set rows i a) (i + 1) b) (i + 2) c
+abbrev pub three_at : List ℕ → ℕ → (a b c : ℕ) → List ℕ
+three_at rows i a b c = set (set (set rows i a) (i + 1) b) (i + 2) c
 
-abbrev pub fourAt : List ℕ → ℕ → (a b c d : ℕ) → List ℕ
-fourAt rows i a b c d = set (threeAt rows i a b c) (i + 3) d
+abbrev pub four_at : List ℕ → ℕ → (a b c d : ℕ) → List ℕ
+four_at rows i a b c d = set (three_at rows i a b c) (i + 3) d
 
 -- the record with its sizes; with its start; with one final state, shown event, rule or move more
-abbrev pub withSize : Model → (g q e : ℕ) → Model
-withSize m g q e = record {
+abbrev pub with_size : Model → (g q e : ℕ) → Model
+with_size m g q e = record {
   symbols = g;
   states = q;
   events = e;
@@ -50,8 +50,8 @@ withSize m g q e = record {
   moverows = m.moverows;
 }
 
-abbrev pub withStart : Model → (q g : ℕ) → Model
-withStart m q g = record {
+abbrev pub with_start : Model → (q g : ℕ) → Model
+with_start m q g = record {
   symbols = m.symbols;
   states = m.states;
   events = m.events;
@@ -65,8 +65,8 @@ withStart m q g = record {
   moverows = m.moverows;
 }
 
-abbrev pub withFinal : Model → (q : ℕ) → Model
-withFinal m q = record {
+abbrev pub with_final : Model → (q : ℕ) → Model
+with_final m q = record {
   symbols = m.symbols;
   states = m.states;
   events = m.events;
@@ -80,8 +80,8 @@ withFinal m q = record {
   moverows = m.moverows;
 }
 
-abbrev pub withEvent : Model → (g e : ℕ) → Model
-withEvent m g e = record {
+abbrev pub with_event : Model → (g e : ℕ) → Model
+with_event m g e = record {
   symbols = m.symbols;
   states = m.states;
   events = m.events;
@@ -95,8 +95,8 @@ withEvent m g e = record {
   moverows = m.moverows;
 }
 
-abbrev pub withRule : Model → (kind g g1 g2 : ℕ) → Model
-withRule m kind g g1 g2 = record {
+abbrev pub with_rule : Model → (kind g g1 g2 : ℕ) → Model
+with_rule m kind g g1 g2 = record {
   symbols = m.symbols;
   states = m.states;
   events = m.events;
@@ -105,13 +105,13 @@ withRule m kind g g1 g2 = record {
   finals = m.finals;
   shows = m.shows;
   rules = m.rules + 1;
-  rulerows = fourAt m.rulerows (m.rules * 4) kind g g1 g2;
+  rulerows = four_at m.rulerows (m.rules * 4) kind g g1 g2;
   moves = m.moves;
   moverows = m.moverows;
 }
 
-abbrev pub withMove : Model → (q e q' : ℕ) → Model
-withMove m q e q' = record {
+abbrev pub with_move : Model → (q e q' : ℕ) → Model
+with_move m q e q' = record {
   symbols = m.symbols;
   states = m.states;
   events = m.events;
@@ -122,42 +122,42 @@ withMove m q e q' = record {
   rules = m.rules;
   rulerows = m.rulerows;
   moves = m.moves + 1;
-  moverows = threeAt m.moverows (m.moves * 3) q e q';
+  moverows = three_at m.moverows (m.moves * 3) q e q';
 }
 
 -- `size` symbols states events
-abbrev pub sizeLine : Draft → Numbers → Draft
-sizeLine d n = record { started = d.started; model = withSize d.model (nth n 0) (nth n 1) (nth n 2) }
+abbrev pub size_line : Draft → Numbers → Draft
+size_line d n = record { started = d.started; model = with_size d.model (nth n 0) (nth n 1) (nth n 2) }
 
 -- `start` state symbol
-abbrev pub startLine : Draft → Numbers → Draft
-startLine d n = record { started = 1; model = withStart d.model (nth n 0) (nth n 1) }
+abbrev pub start_line : Draft → Numbers → Draft
+start_line d n = record { started = 1; model = with_start d.model (nth n 0) (nth n 1) }
 
 -- `final` state
-abbrev pub finalLine : Draft → Numbers → Draft
-finalLine d n = record { started = d.started; model = withFinal d.model (nth n 0) }
+abbrev pub final_line : Draft → Numbers → Draft
+final_line d n = record { started = d.started; model = with_final d.model (nth n 0) }
 
 -- `event` symbol event: event 0 too is set, which is shown with or without a line
-abbrev pub eventLine : Draft → Numbers → Draft
-eventLine d n = record { started = d.started; model = withEvent d.model (nth n 0) (nth n 1) }
+abbrev pub event_line : Draft → Numbers → Draft
+event_line d n = record { started = d.started; model = with_event d.model (nth n 0) (nth n 1) }
 
 -- a rule of kind 0, 1 or 2; the symbols that its line does not have are 0
-abbrev pub ruleLine : (kind : ℕ) → Draft → Numbers → Draft
-ruleLine kind d n = record { started = d.started; model = withRule d.model kind (nth n 0) (nth n 1) (nth n 2) }
+abbrev pub rule_line : (kind : ℕ) → Draft → Numbers → Draft
+rule_line kind d n = record { started = d.started; model = with_rule d.model kind (nth n 0) (nth n 1) (nth n 2) }
 
 -- `move` state event state
 abbrev pub move_line : Draft → Numbers → Draft
-move_line d n = record { started = d.started; model = withMove d.model (nth n 0) (nth n 1) (nth n 2) }
+move_line d n = record { started = d.started; model = with_move d.model (nth n 0) (nth n 1) (nth n 2) }
 
 -- the draft after a line that is not refused, by its word and its numbers
 abbrev pub after : Draft → Word → Numbers → Draft
-after d Size n = sizeLine d n
-after d Start n = startLine d n
-after d Final n = finalLine d n
-after d Event n = eventLine d n
-after d Exit n = ruleLine 0 d n
-after d Direct n = ruleLine 1 d n
-after d Call n = ruleLine 2 d n
+after d Size n = size_line d n
+after d Start n = start_line d n
+after d Final n = final_line d n
+after d Event n = event_line d n
+after d Exit n = rule_line 0 d n
+after d Direct n = rule_line 1 d n
+after d Call n = rule_line 2 d n
 after d Move n = move_line d n
 after d Unknown n = d
 
@@ -165,5 +165,5 @@ after d Unknown n = d
 abbrev pub taken : Draft → ℕ → Draft → Taken
 taken d n next = record { refusal = n; draft = pick (eqb n 0) next d }
 
-unfoldable pub takeLine : Draft → Line → Taken
-takeLine d l = taken d (refusal (tests (countsOf d) l.word l.numbers)) (after d l.word l.numbers)
+unfoldable pub take_line : Draft → Line → Taken
+take_line d l = taken d (refusal (tests (counts_of d) l.word l.numbers)) (after d l.word l.numbers)

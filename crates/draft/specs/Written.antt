@@ -12,32 +12,32 @@ use Rattle.draft.specs.declared.Outline.{Outline}
 use Rattle.draft.specs.declared.Noted.{Noted}
 use Rattle.lent.specs.Lending.{laid, Sized}
 use Rattle.draft.specs.Draft.{Draft, bare}
-use Rattle.draft.specs.Lines.{threeAt, fourAt, outlineOf, after}
+use Rattle.draft.specs.Lines.{three_at, four_at, outline_of, after}
 
 -- truth i of the `count` that stand from a place on; one past them is let be
-abbrev pub truthAt : (from count i : ℕ) → List ℕ → List ℕ
-truthAt from count i cells = pick (ltb i count) (set cells (from + i) 1) cells
+abbrev pub truth_at : (from count i : ℕ) → List ℕ → List ℕ
+truth_at from count i cells = pick (ltb i count) (set cells (from + i) 1) cells
 
 -- the bytes after a line that is not refused: a state that is final, an event that a symbol shows, the row of the next rule or of the next move
 abbrev pub written : Counts → Word → Numbers → List ℕ → List ℕ
 written k Size n cells = cells
 written k Start n cells = cells
-written k Final n cells = truthAt 1920 8 (nth n 0) cells
-written k Event n cells = truthAt 1408 512 (nth n 0 * 16 + nth n 1) cells
-written k Exit n cells = fourAt cells (k.rules * 4) 0 (nth n 0) (nth n 1) (nth n 2)
-written k Direct n cells = fourAt cells (k.rules * 4) 1 (nth n 0) (nth n 1) (nth n 2)
-written k Call n cells = fourAt cells (k.rules * 4) 2 (nth n 0) (nth n 1) (nth n 2)
-written k Move n cells = threeAt cells (1024 + k.moves * 3) (nth n 0) (nth n 1) (nth n 2)
+written k Final n cells = truth_at 1920 8 (nth n 0) cells
+written k Event n cells = truth_at 1408 512 (nth n 0 * 16 + nth n 1) cells
+written k Exit n cells = four_at cells (k.rules * 4) 0 (nth n 0) (nth n 1) (nth n 2)
+written k Direct n cells = four_at cells (k.rules * 4) 1 (nth n 0) (nth n 1) (nth n 2)
+written k Call n cells = four_at cells (k.rules * 4) 2 (nth n 0) (nth n 1) (nth n 2)
+written k Move n cells = three_at cells (1024 + k.moves * 3) (nth n 0) (nth n 1) (nth n 2)
 written k Unknown n cells = cells
 
 -- the number of the refusal; the outline and the bytes afterwards, which a line that is refused leaves as they were
 pub record Notes (o : Outline) (l : Line) (cells : List ℕ) (r : Noted) (cells' : List ℕ) : Type 0 where
   pub number : r.refusal ≡ refusal (tests o.counts l.word l.numbers)
-  pub outline : r.outline ≡ pick (eqb r.refusal 0) (outlineOf (after (bare o) l.word l.numbers)) o
+  pub outline : r.outline ≡ pick (eqb r.refusal 0) (outline_of (after (bare o) l.word l.numbers)) o
   pub bytes : cells' ≡ pick (eqb r.refusal 0) (written o.counts l.word l.numbers cells) cells
 
 -- an outline and the bytes stand for a draft; the last bytes are not its own yet
 pub record Stands (last : List ℕ) (o : Outline) (cells : List ℕ) (d : Draft) : Type 0 where
-  pub outline : o ≡ outlineOf d
+  pub outline : o ≡ outline_of d
   pub bytes : cells ≡ laid d.model last
   pub sized : Sized d.model

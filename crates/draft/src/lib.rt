@@ -4,8 +4,8 @@ ghost use Rattle.numbers.specs.Number.{nth};
 ghost use Rattle.numbers.specs.declared.Numbers.{Numbers};
 ghost use Rattle.limits.specs.Limits.{RuleFits, Fits};
 ghost use Rattle.draft.specs.Draft.{bare};
-ghost use Rattle.draft.specs.Lines.{threeAt, fourAt, outlineOf, sizeLine, startLine, ruleLine, move_line, after};
-ghost use Rattle.draft.specs.Written.{truthAt, written, Notes};
+ghost use Rattle.draft.specs.Lines.{three_at, four_at, outline_of, size_line, start_line, rule_line, move_line, after};
+ghost use Rattle.draft.specs.Written.{truth_at, written, Notes};
 
 use lent::Lent;
 use limits::Counts;
@@ -29,7 +29,7 @@ pub struct Noted {
 
 fn with_size(o: Outline, n: Numbers) -> Outline
     requires { (nth n 0 ≤ 32) × (nth n 1 ≤ 8) × (nth n 2 ≤ 16) }
-    ensures { result ≡ outlineOf (sizeLine (bare o) n) }
+    ensures { result ≡ outline_of (size_line (bare o) n) }
 {
     let at = n.at;
     let mut counts = o.counts;
@@ -45,7 +45,7 @@ fn with_size(o: Outline, n: Numbers) -> Outline
 
 fn with_start(o: Outline, n: Numbers) -> Outline
     requires { (nth n 0 < o.counts.states) × (nth n 1 < o.counts.symbols) }
-    ensures { result ≡ outlineOf (startLine (bare o) n) }
+    ensures { result ≡ outline_of (start_line (bare o) n) }
 {
     let at = n.at;
     let mut counts = o.counts;
@@ -59,7 +59,7 @@ fn with_start(o: Outline, n: Numbers) -> Outline
 
 fn with_rule(o: Outline) -> Outline
     requires { o.counts.rules < 256 }
-    ensures { (kind : ℕ) (n : Numbers) → result ≡ outlineOf (ruleLine kind (bare o) n) }
+    ensures { (kind : ℕ) (n : Numbers) → result ≡ outline_of (rule_line kind (bare o) n) }
 {
     let mut counts = o.counts;
     counts.rules += 1;
@@ -72,7 +72,7 @@ fn with_rule(o: Outline) -> Outline
 
 fn with_move(o: Outline) -> Outline
     requires { o.counts.moves < 128 }
-    ensures { (n : Numbers) → result ≡ outlineOf (move_line (bare o) n) }
+    ensures { (n : Numbers) → result ≡ outline_of (move_line (bare o) n) }
 {
     let mut counts = o.counts;
     counts.moves += 1;
@@ -86,7 +86,7 @@ fn with_move(o: Outline) -> Outline
 // Marks truth i of the `count` that stand from a place on. An outline that no reading makes may have states or symbols past them: there nothing is marked.
 fn mark(m: &mut Lent, from: usize, count: usize, i: usize)
     requires { from + count ≤ 1936 }
-    ensures { m.new ≡ truthAt from count i m.old }
+    ensures { m.new ≡ truth_at from count i m.old }
 {
     if i < count {
         m[from + i] = 1;
@@ -96,7 +96,7 @@ fn mark(m: &mut Lent, from: usize, count: usize, i: usize)
 // Writes the row of the next rule.
 fn put_rule(m: &mut Lent, counts: Counts, kind: u8, n: Numbers)
     requires { RuleFits counts n }
-    ensures { m.new ≡ fourAt m.old (counts.rules * 4) kind (nth n 0) (nth n 1) (nth n 2) }
+    ensures { m.new ≡ four_at m.old (counts.rules * 4) kind (nth n 0) (nth n 1) (nth n 2) }
 {
     let at = n.at;
     let i = counts.rules * 4;
@@ -109,7 +109,7 @@ fn put_rule(m: &mut Lent, counts: Counts, kind: u8, n: Numbers)
 // And of the next move.
 fn put_move(m: &mut Lent, counts: Counts, n: Numbers)
     requires { (counts.moves < 128) × (nth n 0 < counts.states) × (nth n 1 < counts.events) × (nth n 2 < counts.states) }
-    ensures { m.new ≡ threeAt m.old (1024 + counts.moves * 3) (nth n 0) (nth n 1) (nth n 2) }
+    ensures { m.new ≡ three_at m.old (1024 + counts.moves * 3) (nth n 0) (nth n 1) (nth n 2) }
 {
     let at = n.at;
     let i = 1024 + counts.moves * 3;
@@ -142,7 +142,7 @@ fn put(m: &mut Lent, counts: Counts, l: Line)
 // The outline after it.
 fn outline_after(o: Outline, l: Line) -> Outline
     requires { Fits o.counts l.word l.numbers }
-    ensures { result ≡ outlineOf (after (bare o) l.word l.numbers) }
+    ensures { result ≡ outline_of (after (bare o) l.word l.numbers) }
 {
     let w = l.word;
     let n = l.numbers;

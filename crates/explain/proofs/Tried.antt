@@ -16,9 +16,9 @@ use Rattle.product.proofs.Lists.{all_append}
 use Rattle.model.specs.declared.Rule.{Rule}
 use Rattle.model.specs.declared.Next.{Next}
 use Rattle.model.specs.declared.Next.TheVariants.{To, Stuck}
-use Rattle.model.specs.Answers.{ruleAs, meant, nextAs, landed}
-use Rattle.model.proofs.Answers.{meant-as}
-use Rattle.model.proofs.Bounds.{landed-as}
+use Rattle.model.specs.Answers.{rule_as, meant, next_as, landed}
+use Rattle.model.proofs.Answers.{meant_as}
+use Rattle.model.proofs.Bounds.{landed_as}
 use Rattle.table.specs.declared.Fact as code
 use Rattle.table.specs.Places.{fact_of}
 use Rattle.culprit.specs.declared.Goal.{Goal}
@@ -26,141 +26,141 @@ use Rattle.culprit.specs.declared.Goal.TheVariants.{Nothing, Of}
 use Rattle.explain.specs.declared.Cause.{Cause}
 use Rattle.explain.specs.declared.Found.{Found}
 use Rattle.explain.specs.declared.Found.TheVariants.{By, Nowhere}
-use Rattle.explain.specs.Answers.{rank_of, explained, factIn, needsOf, hasAll, first_has, causeOf, foundAs}
-use Rattle.explain.specs.Search.{lower, step_of, givenBy, source, sooner, later, chances, tried, tried_at, byMove, byRule, searched, byRank}
+use Rattle.explain.specs.Answers.{rank_of, explained, fact_in, needs_of, has_all, first_has, cause_of, found_as}
+use Rattle.explain.specs.Search.{lower, step_of, given_by, source, sooner, later, chances, tried, tried_at, way_by_move, way_by_rule, searched, way_by_rank}
 use Rattle.culprit.specs.First.{or_else, first_of}
-use Rattle.culprit.proofs.First.{first-here, find-append}
-use Rattle.explain.proofs.Given.{found-if}
+use Rattle.culprit.proofs.First.{first_here, find_append}
+use Rattle.explain.proofs.Given.{found_if}
 
 -- a fact that is asked for, by its rank; where none is, that is 0
 module _ (t : Table) (k : ℕ) where
-  pub low : (f : Goal) {r : ℕ} → r ≡ rank_of t f → r ≤ k → all (lower t (suc k)) (factIn f) ≡ true
+  pub low : (f : Goal) {r : ℕ} → r ≡ rank_of t f → r ≤ k → all (lower t (suc k)) (fact_in f) ≡ true
   low Nothing e l = refl
   low (Of f) e l = rw (lt-ltb (t (fact_of f)) (suc k) (omega (arith, e)))
 
-  pub high : (f : Goal) {r : ℕ} → r ≡ rank_of t f → k < r → all (lower t (suc k)) (factIn f) ≡ false
+  pub high : (f : Goal) {r : ℕ} → r ≡ rank_of t f → k < r → all (lower t (suc k)) (fact_in f) ≡ false
   high Nothing e l = absurd (omega (arith, e))
   high (Of f) e l = rw (le-ltb (t (fact_of f)) (suc k) (omega (arith, e)))
 
 -- a cause, by the tests of what it needs
 module _ (h : Fact → Bool) (c : Cause) where
-  parts : all h (needsOf c) ≡ (all h (factIn c.before) && (all h (factIn c.first) && all h (factIn c.second)))
-  parts = all_append h (factIn c.before) (factIn c.first ++ factIn c.second)
-      ∙ ap (λ b. all h (factIn c.before) && b) (all_append h (factIn c.first) (factIn c.second))
+  parts : all h (needs_of c) ≡ (all h (fact_in c.before) && (all h (fact_in c.first) && all h (fact_in c.second)))
+  parts = all_append h (fact_in c.before) (fact_in c.first ++ fact_in c.second)
+      ∙ ap (λ b. all h (fact_in c.before) && b) (all_append h (fact_in c.first) (fact_in c.second))
 
-  pub lacks-before : all h (factIn c.before) ≡ false → false ≡ hasAll h (By c)
-  lacks-before n = rw (parts, n)
+  pub lacks_before : all h (fact_in c.before) ≡ false → false ≡ has_all h (By c)
+  lacks_before n = rw (parts, n)
 
-  module _ (a : all h (factIn c.before) ≡ true) where
-    pub lacks-first : all h (factIn c.first) ≡ false → false ≡ hasAll h (By c)
-    lacks-first n = rw (parts, a, n)
+  module _ (a : all h (fact_in c.before) ≡ true) where
+    pub lacks_first : all h (fact_in c.first) ≡ false → false ≡ has_all h (By c)
+    lacks_first n = rw (parts, a, n)
 
-    module _ (b : all h (factIn c.first) ≡ true) where
-      pub lacks-second : all h (factIn c.second) ≡ false → false ≡ hasAll h (By c)
-      lacks-second n = rw (parts, a, b, n)
+    module _ (b : all h (fact_in c.first) ≡ true) where
+      pub lacks_second : all h (fact_in c.second) ≡ false → false ≡ has_all h (By c)
+      lacks_second n = rw (parts, a, b, n)
 
-      pub has_all : all h (factIn c.second) ≡ true → true ≡ hasAll h (By c)
-      has_all d = rw (parts, a, b, d)
+      pub has_all_lem : all h (fact_in c.second) ≡ true → true ≡ has_all h (By c)
+      has_all_lem d = rw (parts, a, b, d)
 
-abbrev ifHas : (Fact → Bool) → Found → Found
-ifHas h w = cond (hasAll h w) w Nowhere
+abbrev if_has : (Fact → Bool) → Found → Found
+if_has h w = cond (has_all h w) w Nowhere
 
-abbrev orFound : Found → Found → Found
-orFound (By c) d = By c
-orFound Nowhere d = d
+abbrev or_found : Found → Found → Found
+or_found (By c) d = By c
+or_found Nowhere d = d
 
-first-has : (h : Fact → Bool) (a b : Found) → first_has h a b ≡ orFound (ifHas h a) (ifHas h b)
-first-has h Nowhere b = refl
-first-has h (By c) b = go (all h (needsOf c))
+first_has_lem : (h : Fact → Bool) (a b : Found) → first_has h a b ≡ or_found (if_has h a) (if_has h b)
+first_has_lem h Nowhere b = refl
+first_has_lem h (By c) b = go (all h (needs_of c))
   where
-    go : (x : Bool) → cond x (By c) (ifHas h b) ≡ orFound (cond x (By c) Nowhere) (ifHas h b)
+    go : (x : Bool) → cond x (By c) (if_has h b) ≡ or_found (cond x (By c) Nowhere) (if_has h b)
     go true = refl
     go false = refl
 
 -- one way: first what it gives, and then what it needs
-has_one : (h : Fact → Bool) (f : Fact) (w : Way) → needsOf (causeOf w) ≡ needs w → ifHas h (foundAs (givenBy f (w ∷ []))) ≡ foundAs (find (works h f) (w ∷ []))
-has_one h f w e = go (same w.gives f) ∙ ap (λ ds. foundAs (cond (same w.gives f && all h ds) (some w) none)) e
+has_one : (h : Fact → Bool) (f : Fact) (w : Way) → needs_of (cause_of w) ≡ needs w → if_has h (found_as (given_by f (w ∷ []))) ≡ found_as (find (works h f) (w ∷ []))
+has_one h f w e = go (same w.gives f) ∙ ap (λ ds. found_as (cond (same w.gives f && all h ds) (some w) none)) e
   where
-    go : (b : Bool) → ifHas h (foundAs (cond b (some w) none)) ≡ foundAs (cond (b && all h (needsOf (causeOf w))) (some w) none)
-    go true = found-if (all h (needsOf (causeOf w))) w
+    go : (b : Bool) → if_has h (found_as (cond b (some w) none)) ≡ found_as (cond (b && all h (needs_of (cause_of w))) (some w) none)
+    go true = found_if (all h (needs_of (cause_of w))) w
     go false = refl
 
 module _ (h : Fact → Bool) (s : Step) (x y : ℕ) where
-  has-sooner : (f : Fact) (ρ : product.Rule) → ifHas h (foundAs (givenBy f (sooner f s x y ρ))) ≡ foundAs (find (works h f) (sooner f s x y ρ))
-  has-sooner (head q g) (exit a) = refl
-  has-sooner (head q g) (direct a g1) = has_one h (head q g) (enters s x a y g1) refl
-  has-sooner (head q g) (call a g1 g2) = has_one h (head q g) (enters s x a y g1) refl
-  has-sooner (triple q g e) (exit a) = has_one h (triple q g e) (leaves s q a y) refl
-  has-sooner (triple q g e) (direct a g1) = has_one h (triple q g e) (backs s q a y g1 e) refl
-  has-sooner (triple q g e) (call a g1 g2) = has_one h (triple q g e) (meets s q a y g1 g2 x e) refl
+  has_sooner : (f : Fact) (ρ : product.Rule) → if_has h (found_as (given_by f (sooner f s x y ρ))) ≡ found_as (find (works h f) (sooner f s x y ρ))
+  has_sooner (head q g) (exit a) = refl
+  has_sooner (head q g) (direct a g1) = has_one h (head q g) (enters s x a y g1) refl
+  has_sooner (head q g) (call a g1 g2) = has_one h (head q g) (enters s x a y g1) refl
+  has_sooner (triple q g e) (exit a) = has_one h (triple q g e) (leaves s q a y) refl
+  has_sooner (triple q g e) (direct a g1) = has_one h (triple q g e) (backs s q a y g1 e) refl
+  has_sooner (triple q g e) (call a g1 g2) = has_one h (triple q g e) (meets s q a y g1 g2 x e) refl
 
-  has-later : (f : Fact) (ρ : product.Rule) → ifHas h (foundAs (givenBy f (later f s x y ρ))) ≡ foundAs (find (works h f) (later f s x y ρ))
-  has-later (head q g) (exit a) = refl
-  has-later (head q g) (direct a g1) = refl
-  has-later (head q g) (call a g1 g2) = has_one h (head q g) (returns s x a y g1 g2 q) refl
-  has-later (triple q g e) ρ = refl
+  has_later : (f : Fact) (ρ : product.Rule) → if_has h (found_as (given_by f (later f s x y ρ))) ≡ found_as (find (works h f) (later f s x y ρ))
+  has_later (head q g) (exit a) = refl
+  has_later (head q g) (direct a g1) = refl
+  has_later (head q g) (call a g1 g2) = has_one h (head q g) (returns s x a y g1 g2 q) refl
+  has_later (triple q g e) ρ = refl
 
 -- two ways, one after the other
-found-or : (o o' : Option Way) → orFound (foundAs o) (foundAs o') ≡ foundAs (or_else o o')
-found-or none o' = refl
-found-or (some w) o' = refl
+found_or : (o o' : Option Way) → or_found (found_as o) (found_as o') ≡ found_as (or_else o o')
+found_or none o' = refl
+found_or (some w) o' = refl
 
 -- what the answers say of the theory's
-pub found_none : (o : Option Way) {d : Found} → d ≡ foundAs o → d ≡ Nowhere → o ≡ none
+pub found_none : (o : Option Way) {d : Found} → d ≡ found_as o → d ≡ Nowhere → o ≡ none
 found_none none e i = refl
 found_none (some w) e i = let z : ◌≡◌ {A = ℕ} 0 1 = cc in absurd (omega arith)
 
-pub found_some : (o : Option Way) {d : Found} {c : Cause} → d ≡ foundAs o → d ≡ By c → (w : Way) × (o ≡ some w) × (By c ≡ By (causeOf w))
+pub found_some : (o : Option Way) {d : Found} {c : Cause} → d ≡ found_as o → d ≡ By c → (w : Way) × (o ≡ some w) × (By c ≡ By (cause_of w))
 found_some none e i = let z : ◌≡◌ {A = ℕ} 0 1 = cc in absurd (omega arith)
 found_some (some w) e i = (w, refl, sym i ∙ e)
 
 -- a rule and a move with a free state, by the state that they lead to
 module _ (p : Product) (h : Fact → Bool) (f : Fact) (r v x : ℕ) {q : ℕ} (from : q ≡ source f x) {n : Next}
-    (read : n ≡ nextAs (p.next (step_of r v) q)) where
+    (read : n ≡ next_as (p.next (step_of r v) q)) where
   lands : p.next (step_of r v) (source f x) ≡ landed n
-  lands = sym (ap landed (read ∙ ap (λ q. nextAs (p.next (step_of r v) q)) from) ∙ landed-as (p.next (step_of r v) (source f x)))
+  lands = sym (ap landed (read ∙ ap (λ q. next_as (p.next (step_of r v) q)) from) ∙ landed_as (p.next (step_of r v) (source f x)))
 
-  pub tried-stuck : n ≡ Stuck → Nowhere ≡ foundAs (tried_at p h f r v x)
-  tried-stuck i = ap (λ o. foundAs (tried h f (step_of r v) x (p.rule r) o)) (sym (lands ∙ ap landed i))
+  pub tried_stuck : n ≡ Stuck → Nowhere ≡ found_as (tried_at p h f r v x)
+  tried_stuck i = ap (λ o. found_as (tried h f (step_of r v) x (p.rule r) o)) (sym (lands ∙ ap landed i))
 
-  pub tried-to : {y : ℕ} → n ≡ To y → {ρ : Rule} → ρ ≡ ruleAs (p.rule r)
-      → {a : Found} → a ≡ foundAs (givenBy f (sooner f (step_of r v) x y (meant ρ))) → {b : Found} → b ≡ foundAs (givenBy f (later f (step_of r v) x y (meant ρ)))
-      → {d : Found} → d ≡ first_has h a b → d ≡ foundAs (tried_at p h f r v x)
-  tried-to {y} i {ρ} k {a} one {b} two e =
+  pub tried_to : {y : ℕ} → n ≡ To y → {ρ : Rule} → ρ ≡ rule_as (p.rule r)
+      → {a : Found} → a ≡ found_as (given_by f (sooner f (step_of r v) x y (meant ρ))) → {b : Found} → b ≡ found_as (given_by f (later f (step_of r v) x y (meant ρ)))
+      → {d : Found} → d ≡ first_has h a b → d ≡ found_as (tried_at p h f r v x)
+  tried_to {y} i {ρ} k {a} one {b} two e =
       e
-      ∙ first-has h a b
-      ∙ ap₂ (λ a b. orFound (ifHas h a) (ifHas h b)) one two
-      ∙ ap₂ orFound (has-sooner h (step_of r v) x y f (meant ρ)) (has-later h (step_of r v) x y f (meant ρ))
-      ∙ found-or (find (works h f) (sooner f (step_of r v) x y (meant ρ))) (find (works h f) (later f (step_of r v) x y (meant ρ)))
-      ∙ ap foundAs (sym (find-append (works h f) (sooner f (step_of r v) x y (meant ρ)) (later f (step_of r v) x y (meant ρ))))
-      ∙ ap (λ ρ. foundAs (find (works h f) (chances f (step_of r v) x y ρ))) (ap meant k ∙ meant-as (p.rule r))
-      ∙ ap (λ o. foundAs (tried h f (step_of r v) x (p.rule r) o)) (sym (lands ∙ ap landed i))
+      ∙ first_has_lem h a b
+      ∙ ap₂ (λ a b. or_found (if_has h a) (if_has h b)) one two
+      ∙ ap₂ or_found (has_sooner h (step_of r v) x y f (meant ρ)) (has_later h (step_of r v) x y f (meant ρ))
+      ∙ found_or (find (works h f) (sooner f (step_of r v) x y (meant ρ))) (find (works h f) (later f (step_of r v) x y (meant ρ)))
+      ∙ ap found_as (sym (find_append (works h f) (sooner f (step_of r v) x y (meant ρ)) (later f (step_of r v) x y (meant ρ))))
+      ∙ ap (λ ρ. found_as (find (works h f) (chances f (step_of r v) x y ρ))) (ap meant k ∙ meant_as (p.rule r))
+      ∙ ap (λ o. found_as (tried h f (step_of r v) x (p.rule r) o)) (sym (lands ∙ ap landed i))
 
 -- the search comes to its end
 module _ (p : Product) (h : Fact → Bool) (f : Fact) (rules moves states r v x : ℕ) where
-  pub search-here : r < rules → first_of (byRule p h f moves states) r ≡ none
-      → v < moves → first_of (byMove p h f states r) v ≡ none
+  pub search_here : r < rules → first_of (way_by_rule p h f moves states) r ≡ none
+      → v < moves → first_of (way_by_move p h f states r) v ≡ none
       → x < states → first_of (tried_at p h f r v) x ≡ none
-      → {d : Found} → d ≡ foundAs (tried_at p h f r v x) → {c : Cause} → d ≡ By c → By c ≡ foundAs (searched p h f rules moves states)
-  search-here i a j b k e read told =
+      → {d : Found} → d ≡ found_as (tried_at p h f r v x) → {c : Cause} → d ≡ By c → By c ≡ found_as (searched p h f rules moves states)
+  search_here i a j b k e read told =
       let (w, is, by) = found_some (tried_at p h f r v x) read told in
-      by ∙ ap foundAs (sym
-      (first-here (byRule p h f moves states) rules r w i a
-      (first-here (byMove p h f states r) moves v w j b
-      (first-here (tried_at p h f r v) states x w k e is))))
+      by ∙ ap found_as (sym
+      (first_here (way_by_rule p h f moves states) rules r w i a
+      (first_here (way_by_move p h f states r) moves v w j b
+      (first_here (tried_at p h f r v) states x w k e is))))
 
 -- the fact that is asked for, by its rank k
 module _ (why : ℕ → Fact → Option Way) (t : Table) {f : Goal} where
-  pub asked-none : f ≡ Nothing → Nowhere ≡ foundAs (explained why t f)
-  asked-none i = rw i
+  pub asked_none : f ≡ Nothing → Nowhere ≡ found_as (explained why t f)
+  asked_none i = rw i
 
   module _ {d : code.Fact} (i : f ≡ Of d) {k : ℕ} (ranked : k ≡ t (fact_of d)) where
-    pub asked-start : k ≡ 0 → Nowhere ≡ foundAs (explained why t f)
-    asked-start z = rw (i, ← ranked, z)
+    pub asked_start : k ≡ 0 → Nowhere ≡ found_as (explained why t f)
+    asked_start z = rw (i, ← ranked, z)
 
-    pub asked-ranked : (k ≡ 0 → ⊥) → {w : Found} → w ≡ foundAs (why (suc (k - 1)) (fact_of d)) → w ≡ foundAs (explained why t f)
-    asked-ranked n e = rw (i, ← ranked) (by_rank k n e)
+    pub asked_ranked : (k ≡ 0 → ⊥) → {w : Found} → w ≡ found_as (why (suc (k - 1)) (fact_of d)) → w ≡ found_as (explained why t f)
+    asked_ranked n e = rw (i, ← ranked) (by_rank k n e)
       where
-        by_rank : (k : ℕ) → (k ≡ 0 → ⊥) → {w : Found} → w ≡ foundAs (why (suc (k - 1)) (fact_of d)) → w ≡ foundAs (byRank why (fact_of d) k)
+        by_rank : (k : ℕ) → (k ≡ 0 → ⊥) → {w : Found} → w ≡ found_as (why (suc (k - 1)) (fact_of d)) → w ≡ found_as (way_by_rank why (fact_of d) k)
         by_rank zero n e = absurd (n refl)
-        by_rank (suc k) n e = e ∙ ap (λ k. foundAs (why k (fact_of d))) (omega arith)
+        by_rank (suc k) n e = e ∙ ap (λ k. found_as (why k (fact_of d))) (omega arith)

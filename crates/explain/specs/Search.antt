@@ -17,11 +17,11 @@ abbrev pub below : (symbols states : ℕ) → (heads triples : List ℕ) → ℕ
 below symbols states heads triples k = lower (view symbols states heads triples) k
 
 abbrev pub step_of : (r v : ℕ) → Step
-step_of r v = record { by-rule = r; by_move = v }
+step_of r v = record { by_rule = r; by_move = v }
 
 -- the first of some ways that gives the fact
-abbrev pub givenBy : Fact → List Way → Option Way
-givenBy f = find (λ w. same w.gives f)
+abbrev pub given_by : Fact → List Way → Option Way
+given_by f = find (λ w. same w.gives f)
 
 -- The state that a step starts from, where x is the one free state: for a head the source of the step, for a triple the middle state.
 abbrev pub source : Fact → ℕ → ℕ
@@ -48,12 +48,12 @@ later (triple q g e) s x y ρ = []
 abbrev pub chances : Fact → Step → (x y : ℕ) → Rule → List Way
 chances f s x y ρ = sooner f s x y ρ ++ later f s x y ρ
 
-abbrev pub chancesTo : Fact → Step → ℕ → Rule → Option ℕ → List Way
-chancesTo f s x ρ none = []
-chancesTo f s x ρ (some y) = chances f s x y ρ
+abbrev pub chances_to : Fact → Step → ℕ → Rule → Option ℕ → List Way
+chances_to f s x ρ none = []
+chances_to f s x ρ (some y) = chances f s x y ρ
 
 abbrev pub tried : (Fact → Bool) → Fact → Step → ℕ → Rule → Option ℕ → Option Way
-tried h f s x ρ o = find (works h f) (chancesTo f s x ρ o)
+tried h f s x ρ o = find (works h f) (chances_to f s x ρ o)
 
 module _ (p : Product) (h : Fact → Bool) (f : Fact) where
   -- by rule r, move v and the free state x
@@ -62,21 +62,21 @@ module _ (p : Product) (h : Fact → Bool) (f : Fact) where
       tried h f (step_of r v) x (p.rule r) (p.next (step_of r v) (source f x))
 
   -- the lowest state; the first move, then the lowest state; the first rule, then the first move, then the lowest state
-  abbrev pub byMove : (states r v : ℕ) → Option Way
-  byMove states r v = first_of (tried_at r v) states
+  abbrev pub way_by_move : (states r v : ℕ) → Option Way
+  way_by_move states r v = first_of (tried_at r v) states
 
-  abbrev pub byRule : (moves states r : ℕ) → Option Way
-  byRule moves states r = first_of (byMove states r) moves
+  abbrev pub way_by_rule : (moves states r : ℕ) → Option Way
+  way_by_rule moves states r = first_of (way_by_move states r) moves
 
   abbrev pub searched : (rules moves states : ℕ) → Option Way
-  searched rules moves states = first_of (byRule moves states) rules
+  searched rules moves states = first_of (way_by_rule moves states) rules
 
 -- the explanation of a fact of rank k, in the two arrays
-abbrev pub whyIn : Product → (symbols states : ℕ) → (heads triples : List ℕ) → (rules moves : ℕ) → ℕ → Fact → Option Way
-whyIn p symbols states heads triples rules moves k f =
+abbrev pub why_in : Product → (symbols states : ℕ) → (heads triples : List ℕ) → (rules moves : ℕ) → ℕ → Fact → Option Way
+why_in p symbols states heads triples rules moves k f =
     searched p (below symbols states heads triples k) f rules moves states
 
 -- the explanation of a fact by its rank; one of rank 0 has none
-abbrev pub byRank : (ℕ → Fact → Option Way) → Fact → ℕ → Option Way
-byRank why f zero = none
-byRank why f (suc k) = why (suc k) f
+abbrev pub way_by_rank : (ℕ → Fact → Option Way) → Fact → ℕ → Option Way
+way_by_rank why f zero = none
+way_by_rank why f (suc k) = why (suc k) f

@@ -1,7 +1,7 @@
 // The explanation of a fact in a table of ranks: the first rule, then the first move, then the lowest state whose needed facts all have lower rank.
 ghost use Rattle.std.specs.Prelude.{◌≡◌, suc};
 ghost use Rattle.table.specs.Places.{fact_of};
-ghost use Rattle.explain.specs.Answers.{tableIn, searchIn, foundAs, explained};
+ghost use Rattle.explain.specs.Answers.{table_in, search_in, found_as, explained};
 
 use culprit::Goal;
 use lent::Lent;
@@ -59,7 +59,7 @@ fn first_cause<'a>(
     f: Fact,
     k: u16,
 ) -> Found
-    ensures { result ≡ foundAs (searchIn m.now n heads.now triples.now (suc k) (fact_of f)) }
+    ensures { result ≡ found_as (search_in m.now n heads.now triples.now (suc k) (fact_of f)) }
 {
     let size = n.size;
     let states = size.states as usize;
@@ -94,7 +94,7 @@ fn first_cause<'a>(
 
 // The explanation of the fact that is asked for, if one is; a fact of rank 0 has none.
 pub fn explain<'a>(m: &'a Lent, heads: &'a [u16], triples: &'a [u16], n: Counts, f: Goal) -> Found
-    ensures { result ≡ foundAs (explained (searchIn m.now n heads.now triples.now) (tableIn n heads.now triples.now) f) }
+    ensures { result ≡ found_as (explained (search_in m.now n heads.now triples.now) (table_in n heads.now triples.now) f) }
 {
     let Goal::Of(d) = f else {
         return Found::Nowhere;

@@ -3,9 +3,9 @@ ghost use Rattle.std.specs.Prelude.{cond, ◌≡◌, eqb};
 ghost use Rattle.product.specs.Facts.{head, triple};
 ghost use Rattle.table.specs.Places.{fact_of};
 ghost use Rattle.model.specs.Answers.{meant};
-ghost use Rattle.explain.specs.Answers.{causeBy, foundAs};
+ghost use Rattle.explain.specs.Answers.{cause_by, found_as};
 ghost use Rattle.explain.specs.declared.Found.TheVariants.{By, Nowhere};
-ghost use Rattle.explain.specs.Search.{step_of, sooner, later, givenBy};
+ghost use Rattle.explain.specs.Search.{step_of, sooner, later, given_by};
 
 use crate::{Cause, Found, Step};
 use culprit::Goal;
@@ -14,7 +14,7 @@ use table::Fact;
 
 // A cause by the step, if the symbol a that it gives is the symbol g that is asked for.
 fn caused(s: Step, a: usize, g: usize, before: Goal, first: Goal, second: Goal) -> Found
-    ensures { result ≡ cond (eqb a g) (By (causeBy s.rule s.by before first second)) Nowhere }
+    ensures { result ≡ cond (eqb a g) (By (cause_by s.rule s.by before first second)) Nowhere }
 {
     if a != g {
         return Found::Nowhere;
@@ -30,7 +30,7 @@ fn caused(s: Step, a: usize, g: usize, before: Goal, first: Goal, second: Goal) 
 
 // The head (q, g), entered by a direct step or a call.
 fn entered(s: Step, y: usize, rule: Rule, q: usize, g: usize) -> Found
-    ensures { result ≡ foundAs (givenBy (head q g) (sooner (head q g) (step_of s.rule s.by) s.free y (meant rule))) }
+    ensures { result ≡ found_as (given_by (head q g) (sooner (head q g) (step_of s.rule s.by) s.free y (meant rule))) }
 {
     if y != q {
         return Found::Nowhere;
@@ -50,7 +50,7 @@ fn entered(s: Step, y: usize, rule: Rule, q: usize, g: usize) -> Found
 
 // The head (q, g), returned to after a call.
 fn returned(s: Step, y: usize, rule: Rule, q: usize, g: usize) -> Found
-    ensures { result ≡ foundAs (givenBy (head q g) (later (head q g) (step_of s.rule s.by) s.free y (meant rule))) }
+    ensures { result ≡ found_as (given_by (head q g) (later (head q g) (step_of s.rule s.by) s.free y (meant rule))) }
 {
     match rule {
         Rule::Exit(_) => Found::Nowhere,
@@ -65,7 +65,7 @@ fn returned(s: Step, y: usize, rule: Rule, q: usize, g: usize) -> Found
 
 // The triple (q, g, e) by a step from the state q.
 fn erased(s: Step, y: usize, rule: Rule, q: usize, g: usize, e: usize) -> Found
-    ensures { result ≡ foundAs (givenBy (triple q g e) (sooner (triple q g e) (step_of s.rule s.by) s.free y (meant rule))) }
+    ensures { result ≡ found_as (given_by (triple q g e) (sooner (triple q g e) (step_of s.rule s.by) s.free y (meant rule))) }
 {
     match rule {
         Rule::Exit(a) => {
@@ -88,7 +88,7 @@ fn erased(s: Step, y: usize, rule: Rule, q: usize, g: usize, e: usize) -> Found
 
 // Of the two ways that a step may have to give a fact, the one that comes first.
 pub fn first(s: Step, y: usize, rule: Rule, f: Fact) -> Found
-    ensures { result ≡ foundAs (givenBy (fact_of f) (sooner (fact_of f) (step_of s.rule s.by) s.free y (meant rule))) }
+    ensures { result ≡ found_as (given_by (fact_of f) (sooner (fact_of f) (step_of s.rule s.by) s.free y (meant rule))) }
 {
     match f {
         Fact::Head(q, g) => entered(s, y, rule, q, g),
@@ -98,7 +98,7 @@ pub fn first(s: Step, y: usize, rule: Rule, f: Fact) -> Found
 
 // And the second.
 pub fn second(s: Step, y: usize, rule: Rule, f: Fact) -> Found
-    ensures { result ≡ foundAs (givenBy (fact_of f) (later (fact_of f) (step_of s.rule s.by) s.free y (meant rule))) }
+    ensures { result ≡ found_as (given_by (fact_of f) (later (fact_of f) (step_of s.rule s.by) s.free y (meant rule))) }
 {
     match f {
         Fact::Head(q, g) => returned(s, y, rule, q, g),

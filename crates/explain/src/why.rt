@@ -1,9 +1,9 @@
 // A step tried for a fact: of the ways that give it, the first whose needed facts all have lower rank.
 ghost use Rattle.std.specs.Prelude.{◌≡◌, suc};
-ghost use Rattle.lent.specs.Lending.{productIn};
+ghost use Rattle.lent.specs.Lending.{product_in};
 ghost use Rattle.table.specs.Cells.{view};
 ghost use Rattle.table.specs.Places.{fact_of};
-ghost use Rattle.explain.specs.Answers.{foundAs, rank_of, hasAll, first_has};
+ghost use Rattle.explain.specs.Answers.{found_as, rank_of, has_all, first_has};
 ghost use Rattle.explain.specs.Search.{below, source, tried_at};
 
 use crate::{Ask, Found, Step, ways};
@@ -24,7 +24,7 @@ fn rank_of<'a>(heads: &'a [u16], triples: &'a [u16], size: Size, f: Goal) -> u16
 
 // There is a cause, and all that it needs has rank at most k. What is not needed has rank 0.
 fn is_lower<'a>(heads: &'a [u16], triples: &'a [u16], size: Size, k: u16, w: Found) -> bool
-    ensures { result ≡ hasAll (below size.symbols size.states heads.now triples.now (suc k)) w }
+    ensures { result ≡ has_all (below size.symbols size.states heads.now triples.now (suc k)) w }
 {
     let Found::By(c) = w else {
         return false;
@@ -76,7 +76,7 @@ fn source(f: Fact, x: usize) -> usize
 
 // The step tried for what is asked.
 pub fn tried<'a>(m: &'a Lent, heads: &'a [u16], triples: &'a [u16], ask: Ask, s: Step) -> Found
-    ensures { result ≡ foundAs (tried_at (productIn m.now) (below ask.size.symbols ask.size.states heads.now triples.now (suc ask.k)) (fact_of ask.f) s.rule s.by s.free) }
+    ensures { result ≡ found_as (tried_at (product_in m.now) (below ask.size.symbols ask.size.states heads.now triples.now (suc ask.k)) (fact_of ask.f) s.rule s.by s.free) }
 {
     let f = ask.f;
     let next = lent::next_state(m, s.rule, s.by, source(f, s.free));

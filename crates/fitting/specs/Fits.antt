@@ -3,7 +3,7 @@ use Rattle.std.specs.Prelude.{[], ◌∷◌, ℕ, ◌≤◌, T, ltb}
 use Rattle.text.specs.Split.{pick}
 use Rattle.product.specs.Answer.{Answer, refused}
 use Rattle.table.specs.declared.Size.{Size}
-use Rattle.table.specs.Cells.{headCount, tripleCount}
+use Rattle.table.specs.Cells.{head_count, triple_count}
 use Rattle.model.specs.declared.Model.{Model}
 use Rattle.model.specs.Valid.{valid}
 use Rattle.fitting.specs.declared.Fit.{Fit}
@@ -13,16 +13,16 @@ abbrev pub size_of : Model → Size
 size_of m = record { symbols = m.symbols; states = m.states }
 
 -- how many heads and triples a model has
-abbrev pub headsOf : Model → ℕ
-headsOf m = headCount m.symbols m.states
+abbrev pub heads_of : Model → ℕ
+heads_of m = head_count m.symbols m.states
 
-abbrev pub triplesOf : Model → ℕ
-triplesOf m = tripleCount m.symbols m.states
+abbrev pub triples_of : Model → ℕ
+triples_of m = triple_count m.symbols m.states
 
 -- one of three, for arrays of so many cells: the record is not valid, an array is too short, or neither
 abbrev pub tested : {A : Type 0} → Model → (heads triples : ℕ) → (invalid short well : A) → A
 tested m heads triples invalid short well =
-    pick (valid m) (pick (ltb heads (headsOf m)) short (pick (ltb triples (triplesOf m)) short well)) invalid
+    pick (valid m) (pick (ltb heads (heads_of m)) short (pick (ltb triples (triples_of m)) short well)) invalid
 
 -- by the document's numbers: 6, then 7, and else the answer
 abbrev pub guarded : {A : Type 0} → Model → (heads triples : ℕ) → Answer A → Answer A
@@ -32,12 +32,12 @@ guarded m heads triples well = tested m heads triples (refused 6 (0 ∷ [])) (re
 abbrev pub unfit : ℕ → Fit
 unfit n = record { refusal = n; size = record { symbols = 0; states = 0 }; heads = 0; triples = 0 }
 
-abbrev pub fitOf : Model → (heads triples : ℕ) → Fit
-fitOf m heads triples =
-    tested m heads triples (unfit 6) (unfit 7) (record { refusal = 0; size = size_of m; heads = headsOf m; triples = triplesOf m })
+abbrev pub fit_of : Model → (heads triples : ℕ) → Fit
+fit_of m heads triples =
+    tested m heads triples (unfit 6) (unfit 7) (record { refusal = 0; size = size_of m; heads = heads_of m; triples = triples_of m })
 
 -- the model is valid, and arrays of so many cells are long enough for its table
 pub record Fits (m : Model) (heads triples : ℕ) : Type 0 where
-  pub valid-model : T (valid m)
-  pub heads-there : headsOf m ≤ heads
-  pub triples-there : triplesOf m ≤ triples
+  pub valid_model : T (valid m)
+  pub heads_there : heads_of m ≤ heads
+  pub triples_there : triples_of m ≤ triples

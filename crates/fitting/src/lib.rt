@@ -1,7 +1,7 @@
 // What a call with a model and a table tests first: the model (refusal 6), then the length of the two arrays (7). One door for all calls.
 ghost use Rattle.std.specs.Prelude.{◌≡◌};
-ghost use Rattle.lent.specs.Lending.{modelIn};
-ghost use Rattle.fitting.specs.Fits.{size_of, fitOf};
+ghost use Rattle.lent.specs.Lending.{model_in};
+ghost use Rattle.fitting.specs.Fits.{size_of, fit_of};
 
 use lent::Lent;
 use table::Size;
@@ -32,7 +32,7 @@ fn refused(refusal: u8) -> Fit
 
 // The size of a model's table: its symbols, and the states of its product.
 pub fn size_of(m: &Lent) -> Size
-    ensures { result ≡ size_of (modelIn m.now) }
+    ensures { result ≡ size_of (model_in m.now) }
 {
     let s = lent::shape(m);
     Size {
@@ -43,7 +43,7 @@ pub fn size_of(m: &Lent) -> Size
 
 // Whether arrays of these lengths hold the table of a model.
 pub fn measure(m: &Lent, heads: usize, triples: usize) -> Fit
-    ensures { result ≡ fitOf (modelIn m.now) heads triples }
+    ensures { result ≡ fit_of (model_in m.now) heads triples }
 {
     if !lent::is_valid(m) {
         return refused(6);

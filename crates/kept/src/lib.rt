@@ -3,7 +3,7 @@
 ghost use Rattle.std.specs.Prelude.{◌≡◌};
 ghost use Rattle.table.specs.Places.{fact_of};
 ghost use Rattle.model.specs.Answers.{meant, landed};
-ghost use Rattle.kept.specs.Kept.{in_table, passes, triplesPass, bothPass, returnPasses, returnsPass, ruleKept, nextKept};
+ghost use Rattle.kept.specs.Kept.{in_table, passes, triples_pass, both_pass, return_passes, returns_pass, rule_kept, next_kept};
 
 use model::{Next, Rule};
 use table::{Fact, Size};
@@ -36,7 +36,7 @@ fn passes<'a>(heads: &'a [u16], triples: &'a [u16], size: Size, f: Fact, to: Fac
 
 // Every triple (q2, g1, e) that is present is passed back to (q, g).
 fn triples_pass<'a>(heads: &'a [u16], triples: &'a [u16], size: Size, leg: Leg) -> bool
-    ensures { result ≡ triplesPass size.states (in_table size heads.now triples.now) leg.q leg.g leg.q2 leg.g1 }
+    ensures { result ≡ triples_pass size.states (in_table size heads.now triples.now) leg.q leg.g leg.q2 leg.g1 }
 {
     let mut e: usize = 0;
     while e < size.states as usize {
@@ -52,7 +52,7 @@ fn triples_pass<'a>(heads: &'a [u16], triples: &'a [u16], size: Size, leg: Leg) 
 
 // As a direct step from (q, g) to (q2, g1) asks: the head is passed on, and the triples back.
 fn both_pass<'a>(heads: &'a [u16], triples: &'a [u16], size: Size, leg: Leg) -> bool
-    ensures { result ≡ bothPass size.states (in_table size heads.now triples.now) leg.q leg.g leg.q2 leg.g1 }
+    ensures { result ≡ both_pass size.states (in_table size heads.now triples.now) leg.q leg.g leg.q2 leg.g1 }
 {
     let f = Fact::Head(leg.q, leg.g);
     let to = Fact::Head(leg.q2, leg.g1);
@@ -71,7 +71,7 @@ fn return_passes<'a>(
     g2: usize,
     e: usize,
 ) -> bool
-    ensures { result ≡ returnPasses size.states (in_table size heads.now triples.now) leg.q leg.g leg.q2 leg.g1 g2 e }
+    ensures { result ≡ return_passes size.states (in_table size heads.now triples.now) leg.q leg.g leg.q2 leg.g1 g2 e }
 {
     if !has(heads, triples, size, Fact::Triple(leg.q2, leg.g1, e)) {
         return true;
@@ -86,7 +86,7 @@ fn return_passes<'a>(
 }
 
 fn returns_pass<'a>(heads: &'a [u16], triples: &'a [u16], size: Size, leg: Leg, g2: usize) -> bool
-    ensures { result ≡ returnsPass size.states (in_table size heads.now triples.now) leg.q leg.g leg.q2 leg.g1 g2 }
+    ensures { result ≡ returns_pass size.states (in_table size heads.now triples.now) leg.q leg.g leg.q2 leg.g1 g2 }
 {
     let mut e: usize = 0;
     while e < size.states as usize {
@@ -107,7 +107,7 @@ fn rule_kept<'a>(
     q2: usize,
     rule: Rule,
 ) -> bool
-    ensures { result ≡ ruleKept size.states (in_table size heads.now triples.now) q q2 (meant rule) }
+    ensures { result ≡ rule_kept size.states (in_table size heads.now triples.now) q q2 (meant rule) }
 {
     match rule {
         Rule::Exit(g) => has(heads, triples, size, Fact::Triple(q, g, q2)),
@@ -130,7 +130,7 @@ pub fn next_kept<'a>(
     next: Next,
     rule: Rule,
 ) -> bool
-    ensures { result ≡ nextKept size.states (in_table size heads.now triples.now) q (meant rule) (landed next) }
+    ensures { result ≡ next_kept size.states (in_table size heads.now triples.now) q (meant rule) (landed next) }
 {
     match next {
         Next::Stuck => true,

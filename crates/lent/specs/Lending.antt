@@ -8,8 +8,8 @@ use Rattle.model.specs.declared.Model.{Model}
 use Rattle.model.specs.declared.Shape.{Shape}
 use Rattle.model.specs.declared.Next.{Next}
 use Rattle.model.specs.declared.Next.TheVariants.{To, Stuck}
-use Rattle.model.specs.Model.{in_row, productOf}
-use Rattle.model.specs.Valid.{ofParts}
+use Rattle.model.specs.Model.{in_row, product_of}
+use Rattle.model.specs.Valid.{of_parts}
 use Rattle.lent.specs.declared.Row.{Row}
 
 -- n cells from a place on
@@ -17,20 +17,20 @@ abbrev pub part : (from n : ℕ) → List ℕ → List ℕ
 part from n cells = take n (drop from cells)
 
 -- a truth is an odd number
-abbrev pub isTrue : ℕ → Bool
-isTrue n = eqb (n % 2) 1
+abbrev pub is_true : ℕ → Bool
+is_true n = eqb (n % 2) 1
 
 abbrev pub byte_of : Bool → ℕ
 byte_of b = cond b 1 0
 
 unfoldable pub truths : List ℕ → List Bool
-truths cells = map isTrue cells
+truths cells = map is_true cells
 
 unfoldable pub bytes_of : List Bool → List ℕ
 bytes_of bs = map byte_of bs
 
-abbrev pub shapeIn : List ℕ → Shape
-shapeIn cells = record {
+abbrev pub shape_in : List ℕ → Shape
+shape_in cells = record {
   symbols = get_or cells 1928 0;
   states = get_or cells 1929 0;
   events = get_or cells 1930 0;
@@ -50,19 +50,19 @@ row_in cells r = record {
 }
 
 -- the record of a shape and the bytes' rules, moves and truths; and the record that the bytes are
-abbrev pub ofLent : Shape → List ℕ → Model
-ofLent s cells = ofParts s (part 0 1024 cells) (part 1024 384 cells) (truths (part 1408 512 cells)) (truths (part 1920 8 cells))
+abbrev pub of_lent : Shape → List ℕ → Model
+of_lent s cells = of_parts s (part 0 1024 cells) (part 1024 384 cells) (truths (part 1408 512 cells)) (truths (part 1920 8 cells))
 
-unfoldable pub modelIn : List ℕ → Model
-modelIn cells = ofLent (shapeIn cells) cells
+unfoldable pub model_in : List ℕ → Model
+model_in cells = of_lent (shape_in cells) cells
 
 -- and its product
-abbrev pub productIn : List ℕ → Product
-productIn cells = productOf (modelIn cells)
+abbrev pub product_in : List ℕ → Product
+product_in cells = product_of (model_in cells)
 
 -- the state after rule r and move v from q
-abbrev pub nextBy : Product → (r v q : ℕ) → Option ℕ
-nextBy p r v q = p.next (record { by-rule = r; by_move = v }) q
+abbrev pub next_by : Product → (r v q : ℕ) → Option ℕ
+next_by p r v q = p.next (record { by_rule = r; by_move = v }) q
 
 -- a state that was read is a byte
 abbrev pub InByte : Next → Type 0
@@ -73,12 +73,12 @@ InByte (To q) = q ≤ 255
 unfoldable pub laid : Model → (last : List ℕ) → List ℕ
 laid m last = m.rulerows ++ (m.moverows ++ (bytes_of m.shows ++ (bytes_of m.finals ++ last)))
 
-abbrev pub shapeBytes : Model → List ℕ
-shapeBytes m =
+abbrev pub shape_bytes : Model → List ℕ
+shape_bytes m =
     m.symbols ∷ m.states ∷ m.events ∷ m.startstate ∷ m.startsymbol ∷ (m.rules % 256) ∷ (m.rules / 256 % 256) ∷ (m.moves % 256) ∷ []
 
 abbrev pub packed : Model → List ℕ
-packed m = laid m (shapeBytes m)
+packed m = laid m (shape_bytes m)
 
 -- the arrays of a record are as long as the bytes have room for
 pub record Sized (m : Model) : Type 0 where

@@ -1,8 +1,8 @@
 // A model as one lent array: those who have it ask by it, and only `steps` beside this crate reads its cells. specs/Lending.antt says which record it is.
 ghost use Rattle.std.specs.Prelude.{◌≡◌, ◌+◌, ◌*◌, ◌≤◌, ◌<◌, replicate};
-ghost use Rattle.lent.specs.Lending.{part, shapeIn, row_in, modelIn, productIn, nextBy, InByte};
+ghost use Rattle.lent.specs.Lending.{part, shape_in, row_in, model_in, product_in, next_by, InByte};
 ghost use Rattle.product.specs.Product.{symbol};
-ghost use Rattle.model.specs.Answers.{meant, nextAs, ruleAs};
+ghost use Rattle.model.specs.Answers.{meant, next_as, rule_as};
 ghost use Rattle.model.specs.Model.{in_row, move, shown, there};
 
 use model::{Move, Next, Rule, Shape};
@@ -38,7 +38,7 @@ fn wide(b: u8) -> usize
 
 // What the model says beside its rules, its moves and its truths.
 pub fn shape(m: &Lent) -> Shape
-    ensures { result ≡ shapeIn m.now }
+    ensures { result ≡ shape_in m.now }
 {
     let low = wide(m[1933]);
     let high = wide(m[1934]);
@@ -89,7 +89,7 @@ fn in_move(m: &Lent, v: usize, i: usize) -> usize
 
 // Rule r.
 pub fn rule_at(m: &Lent, r: usize) -> Rule
-    ensures { result ≡ ruleAs ((productIn m.now).rule r) }
+    ensures { result ≡ rule_as ((product_in m.now).rule r) }
 {
     let row = row_at(m, r);
     let g = row.symbol as usize;
@@ -105,7 +105,7 @@ pub fn rule_at(m: &Lent, r: usize) -> Rule
 
 // Move v.
 pub fn move_at(m: &Lent, v: usize) -> Move
-    ensures value { result ≡ move (modelIn m.now) v }
+    ensures value { result ≡ move (model_in m.now) v }
     ensures target_bound { result.target ≤ 255 }
 {
     Move {
@@ -117,7 +117,7 @@ pub fn move_at(m: &Lent, v: usize) -> Move
 
 // The state q is final.
 pub fn is_final(m: &Lent, q: usize) -> bool
-    ensures { result ≡ (productIn m.now).final q }
+    ensures { result ≡ (product_in m.now).final q }
 {
     if 8 <= q {
         return false;
@@ -127,7 +127,7 @@ pub fn is_final(m: &Lent, q: usize) -> bool
 
 // The symbol shows the event; every symbol shows event 0.
 pub fn shows(m: &Lent, g: usize, e: usize) -> bool
-    ensures { result ≡ shown (modelIn m.now) g e }
+    ensures { result ≡ shown (model_in m.now) g e }
 {
     if e == 0 {
         return true;
@@ -158,7 +158,7 @@ fn symbol(rule: Rule) -> usize
 
 // The model has rule r and move v.
 fn has(m: &Lent, r: usize, v: usize) -> bool
-    ensures { result ≡ there (modelIn m.now) (record { by-rule = r; by_move = v }) }
+    ensures { result ≡ there (model_in m.now) (record { by_rule = r; by_move = v }) }
 {
     let s = shape(m);
     if s.rules <= r {
@@ -170,7 +170,7 @@ fn has(m: &Lent, r: usize, v: usize) -> bool
 // The one meaning of a step: the state after rule r and move v from state q. The move starts at q, and the rule's symbol, on top before the step,
 // shows its event.
 pub fn next_state(m: &Lent, r: usize, v: usize, q: usize) -> Next
-    ensures value { result ≡ nextAs (nextBy (productIn m.now) r v q) }
+    ensures value { result ≡ next_as (next_by (product_in m.now) r v q) }
     ensures in_byte { InByte result }
 {
     if !has(m, r, v) {

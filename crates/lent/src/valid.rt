@@ -1,9 +1,9 @@
 // Which lent models are valid: every count within its size, and every number in use within its range.
 ghost use Rattle.std.specs.Prelude.{◌&&◌, ◌≡◌, ◌≤◌, leb};
 ghost use Rattle.product.specs.Lists.{all, up_to};
-ghost use Rattle.model.specs.Model.{ruleBy};
-ghost use Rattle.model.specs.Valid.{within, sizesIn, symbolsIn, ruleRowIn, moveRowIn, valid};
-ghost use Rattle.lent.specs.Lending.{part, modelIn};
+ghost use Rattle.model.specs.Model.{rule_by};
+ghost use Rattle.model.specs.Valid.{within, sizes_in, symbols_in, rule_row_in, move_row_in, valid};
+ghost use Rattle.lent.specs.Lending.{part, model_in};
 
 use crate::{Lent, Row, move_at, row_at, shape};
 
@@ -15,7 +15,7 @@ fn within(low: usize, high: usize, n: usize) -> bool
 
 // The counts are within their sizes.
 fn sizes_in(symbols: usize, states: usize, events: usize, rules: usize, moves: usize) -> bool
-    ensures { result ≡ sizesIn symbols states events rules moves }
+    ensures { result ≡ sizes_in symbols states events rules moves }
 {
     if !within(1, 32, symbols) {
         return false;
@@ -31,7 +31,7 @@ fn sizes_in(symbols: usize, states: usize, events: usize, rules: usize, moves: u
 
 // The row is a rule, with its symbols in range.
 fn row_in(row: Row, symbols: u8) -> bool
-    ensures { result ≡ leb row.kind 2 && symbolsIn symbols (ruleBy row.kind row.symbol row.over row.under) }
+    ensures { result ≡ leb row.kind 2 && symbols_in symbols (rule_by row.kind row.symbol row.over row.under) }
 {
     if 2 < row.kind {
         return false;
@@ -52,7 +52,7 @@ fn row_in(row: Row, symbols: u8) -> bool
 }
 
 fn rules_in(m: &Lent, symbols: u8, count: usize) -> bool
-    ensures { result ≡ all (ruleRowIn symbols (part 0 1024 m.now)) (up_to count) }
+    ensures { result ≡ all (rule_row_in symbols (part 0 1024 m.now)) (up_to count) }
 {
     let mut r: usize = 0;
     while r < count {
@@ -66,7 +66,7 @@ fn rules_in(m: &Lent, symbols: u8, count: usize) -> bool
 
 // Row v is a move, with its states and its event in range.
 fn move_in(m: &Lent, states: usize, events: usize, v: usize) -> bool
-    ensures { result ≡ moveRowIn states events (part 1024 384 m.now) v }
+    ensures { result ≡ move_row_in states events (part 1024 384 m.now) v }
 {
     let by = move_at(m, v);
     if states <= by.source {
@@ -79,7 +79,7 @@ fn move_in(m: &Lent, states: usize, events: usize, v: usize) -> bool
 }
 
 fn moves_in(m: &Lent, states: usize, events: usize, count: usize) -> bool
-    ensures { result ≡ all (moveRowIn states events (part 1024 384 m.now)) (up_to count) }
+    ensures { result ≡ all (move_row_in states events (part 1024 384 m.now)) (up_to count) }
 {
     let mut v: usize = 0;
     while v < count {
@@ -93,7 +93,7 @@ fn moves_in(m: &Lent, states: usize, events: usize, count: usize) -> bool
 
 // The model is valid; if not, it is refusal 6. The counts come first, so that no more rows are looked at than there are.
 pub fn is_valid(m: &Lent) -> bool
-    ensures { result ≡ valid (modelIn m.now) }
+    ensures { result ≡ valid (model_in m.now) }
 {
     let s = shape(m);
     let states = s.states as usize;

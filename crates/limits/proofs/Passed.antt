@@ -10,7 +10,7 @@ use Rattle.numbers.specs.declared.Numbers.{Numbers}
 use Rattle.modelline.specs.declared.Word.{Word}
 use Rattle.modelline.specs.declared.Word.TheVariants.{Size, Start, Final, Event, Exit, Direct, Call, Move, Unknown}
 use Rattle.limits.specs.declared.Counts.{Counts}
-use Rattle.limits.specs.Limits.{Tests, refusal, uncounted, unsized, ruleTests, tests, Counted, RuleFits, Fits}
+use Rattle.limits.specs.Limits.{Tests, refusal, uncounted, unsized, rule_tests, tests, Counted, RuleFits, Fits}
 
 record Passed (t : Tests) : Type 0 where
   malformed : t.malformed ≡ false
@@ -42,7 +42,7 @@ neither false b e = (refl, e)
 counted : (most n : ℕ) → uncounted most n ≡ false → Counted most n
 counted most n e = let (l, h) = neither (ltb n 1) (ltb most n) e in (ltb-false n 1 l, ltb-false most n h)
 
-rule_fits : (takes : ℕ) (k : Counts) (n : Numbers) → Passed (ruleTests takes k n) → RuleFits k n
+rule_fits : (takes : ℕ) (k : Counts) (n : Numbers) → Passed (rule_tests takes k n) → RuleFits k n
 rule_fits takes k n p = (leb-false 256 _ p.full, leb-false _ _ p.first, leb-false _ _ p.second, leb-false _ _ p.third)
 
 by_word : (k : Counts) (w : Word) (n : Numbers) → Passed (tests k w n) → Fits k w n
@@ -64,8 +64,8 @@ pub fits : (k : Counts) (w : Word) (n : Numbers) {r : ℕ} → r ≡ refusal (te
 fits k w n p e = by_word k w n (passed (tests k w n) (rw p at e))
 
 -- a refusal is one of the document's numbers of a line
-pub line-number : (t : Tests) → (refusal t ≡ 0 → ⊥) → (2 ≤ refusal t) × (refusal t ≤ 5)
-line-number t n = go t.malformed t.misplaced t.first t.second t.third t.full n
+pub line_number : (t : Tests) → (refusal t ≡ 0 → ⊥) → (2 ≤ refusal t) × (refusal t ≤ 5)
+line_number t n = go t.malformed t.misplaced t.first t.second t.third t.full n
   where
     by : (a b c d e f : Bool) → ℕ
     by a b c d e f = pick a 2 (pick b 3 (pick c 4 (pick d 4 (pick e 4 (pick f 5 0)))))

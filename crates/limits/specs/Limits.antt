@@ -40,41 +40,41 @@ abbrev pub unsized : Counts → Bool
 unsized k = eqb k.symbols 0
 
 -- `size` symbols states events
-abbrev pub sizeTests : Counts → Numbers → Tests
-sizeTests k n = judged (miscounted n 3) (ltb 0 k.symbols) (uncounted 32 (nth n 0)) (uncounted 8 (nth n 1)) (uncounted 16 (nth n 2)) false
+abbrev pub size_tests : Counts → Numbers → Tests
+size_tests k n = judged (miscounted n 3) (ltb 0 k.symbols) (uncounted 32 (nth n 0)) (uncounted 8 (nth n 1)) (uncounted 16 (nth n 2)) false
 
 -- `start` state symbol
-abbrev pub startTests : Counts → Numbers → Tests
-startTests k n = judged (miscounted n 2) (unsized k || ltb 0 k.started) (leb k.states (nth n 0)) (leb k.symbols (nth n 1)) false false
+abbrev pub start_tests : Counts → Numbers → Tests
+start_tests k n = judged (miscounted n 2) (unsized k || ltb 0 k.started) (leb k.states (nth n 0)) (leb k.symbols (nth n 1)) false false
 
 -- `final` state
-abbrev pub finalTests : Counts → Numbers → Tests
-finalTests k n = judged (miscounted n 1) (unsized k) (leb k.states (nth n 0)) false false false
+abbrev pub final_tests : Counts → Numbers → Tests
+final_tests k n = judged (miscounted n 1) (unsized k) (leb k.states (nth n 0)) false false false
 
 -- `event` symbol event
-abbrev pub eventTests : Counts → Numbers → Tests
-eventTests k n = judged (miscounted n 2) (unsized k) (leb k.symbols (nth n 0)) (leb k.events (nth n 1)) false false
+abbrev pub event_tests : Counts → Numbers → Tests
+event_tests k n = judged (miscounted n 2) (unsized k) (leb k.symbols (nth n 0)) (leb k.events (nth n 1)) false false
 
 -- a rule by the count of symbols that it takes: those that a line does not have are read as 0, which is always in range
-abbrev pub ruleTests : (takes : ℕ) → Counts → Numbers → Tests
-ruleTests takes k n =
+abbrev pub rule_tests : (takes : ℕ) → Counts → Numbers → Tests
+rule_tests takes k n =
     judged (miscounted n takes) (unsized k) (leb k.symbols (nth n 0)) (leb k.symbols (nth n 1)) (leb k.symbols (nth n 2)) (leb 256 k.rules)
 
 -- `move` state event state
-abbrev pub moveTests : Counts → Numbers → Tests
-moveTests k n =
+abbrev pub move_tests : Counts → Numbers → Tests
+move_tests k n =
     judged (miscounted n 3) (unsized k) (leb k.states (nth n 0)) (leb k.events (nth n 1)) (leb k.states (nth n 2)) (leb 128 k.moves)
 
 -- by the word and its numbers
 abbrev pub tests : Counts → Word → Numbers → Tests
-tests k Size n = sizeTests k n
-tests k Start n = startTests k n
-tests k Final n = finalTests k n
-tests k Event n = eventTests k n
-tests k Exit n = ruleTests 1 k n
-tests k Direct n = ruleTests 2 k n
-tests k Call n = ruleTests 3 k n
-tests k Move n = moveTests k n
+tests k Size n = size_tests k n
+tests k Start n = start_tests k n
+tests k Final n = final_tests k n
+tests k Event n = event_tests k n
+tests k Exit n = rule_tests 1 k n
+tests k Direct n = rule_tests 2 k n
+tests k Call n = rule_tests 3 k n
+tests k Move n = move_tests k n
 tests k Unknown n = none
 
 -- What holds of a line that is not refused.

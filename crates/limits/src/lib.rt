@@ -1,7 +1,7 @@
 // Whether a line may stand in a model text: the number of its refusal, by what was read before it. specs/Limits.antt has
 // the tests of each line.
 ghost use Rattle.std.specs.Prelude.{◌||◌, ◌≡◌};
-ghost use Rattle.limits.specs.Limits.{refusal, judged, uncounted, sizeTests, startTests, finalTests, eventTests, ruleTests, moveTests, tests};
+ghost use Rattle.limits.specs.Limits.{refusal, judged, uncounted, size_tests, start_tests, final_tests, event_tests, rule_tests, move_tests, tests};
 
 use modelline::{Line, Word};
 use numbers::Numbers;
@@ -78,7 +78,7 @@ fn uncounted(most: u32, n: u32) -> bool
 }
 
 fn size_refusal(k: Counts, n: Numbers) -> u8
-    ensures { result ≡ refusal (sizeTests k n) }
+    ensures { result ≡ refusal (size_tests k n) }
 {
     let at = n.at;
     first_of(
@@ -92,7 +92,7 @@ fn size_refusal(k: Counts, n: Numbers) -> u8
 }
 
 fn start_refusal(k: Counts, n: Numbers) -> u8
-    ensures { result ≡ refusal (startTests k n) }
+    ensures { result ≡ refusal (start_tests k n) }
 {
     let at = n.at;
     let symbols = k.symbols as u32;
@@ -108,7 +108,7 @@ fn start_refusal(k: Counts, n: Numbers) -> u8
 }
 
 fn final_refusal(k: Counts, n: Numbers) -> u8
-    ensures { result ≡ refusal (finalTests k n) }
+    ensures { result ≡ refusal (final_tests k n) }
 {
     let at = n.at;
     let states = k.states as u32;
@@ -123,7 +123,7 @@ fn final_refusal(k: Counts, n: Numbers) -> u8
 }
 
 fn event_refusal(k: Counts, n: Numbers) -> u8
-    ensures { result ≡ refusal (eventTests k n) }
+    ensures { result ≡ refusal (event_tests k n) }
 {
     let at = n.at;
     let symbols = k.symbols as u32;
@@ -140,7 +140,7 @@ fn event_refusal(k: Counts, n: Numbers) -> u8
 
 // By the count of symbols that a rule takes. Those that a line does not have are read as 0, which is always in range.
 fn rule_refusal(takes: usize, k: Counts, n: Numbers) -> u8
-    ensures { result ≡ refusal (ruleTests takes k n) }
+    ensures { result ≡ refusal (rule_tests takes k n) }
 {
     let at = n.at;
     let symbols = k.symbols as u32;
@@ -155,7 +155,7 @@ fn rule_refusal(takes: usize, k: Counts, n: Numbers) -> u8
 }
 
 fn move_refusal(k: Counts, n: Numbers) -> u8
-    ensures { result ≡ refusal (moveTests k n) }
+    ensures { result ≡ refusal (move_tests k n) }
 {
     let at = n.at;
     let states = k.states as u32;

@@ -11,16 +11,16 @@ use Rattle.text.specs.Split.{pick}
 use Rattle.product.specs.Answer.{Answer, answered, refused}
 use Rattle.product.proofs.Answer.{apart}
 use Rattle.model.specs.declared.Model.{Model}
-use Rattle.model.proofs.Bounds.{few-heads, few-triples}
+use Rattle.model.proofs.Bounds.{few_heads, few_triples}
 use Rattle.fitting.specs.declared.Fit.{Fit}
 use Rattle.table.specs.declared.Size.{Size}
-use Rattle.fitting.specs.Fits.{size_of, headsOf, triplesOf, fitOf, Fits}
-use Rattle.fitting.proofs.Tested.{is-invalid, is-short, is-well, heads-are, triples-are, size_is, tested-well}
+use Rattle.fitting.specs.Fits.{size_of, heads_of, triples_of, fit_of, Fits}
+use Rattle.fitting.proofs.Tested.{is_invalid, is_short, is_well, heads_are, triples_are, size_is, tested_well}
 use Rattle.product.specs.Table.{absent}
 use Rattle.rows.specs.State.{Ended, before}
-use Rattle.rows.specs.Lines.{startState, readText}
+use Rattle.rows.specs.Lines.{start_state, read_text}
 use Rattle.rows.proofs.Refusals.{Refusals, text_of}
-use Rattle.listing.specs.Reading.{meaning, lines_of, refusedAs, answer_of, filled, headsLeft, triplesLeft, Reads}
+use Rattle.listing.specs.Reading.{meaning, lines_of, refused_as, answer_of, filled, heads_left, triples_left, Reads}
 use Rattle.listing.specs.declared.ListingRead.{ListingRead}
 use Rattle.listing.specs.declared.ListingRead.TheVariants.{Accepted, Invalid, Short, TooLong, Malformed, Misplaced, OutOfRange}
 
@@ -30,25 +30,25 @@ meant (answered rounds) = Accepted rounds
 meant (refused n []) = Invalid
 meant (refused n (line ∷ _)) = cond (eqb n 6) Invalid (cond (eqb n 7) Short (cond (eqb n 1) TooLong (cond (eqb n 2) (Malformed line) (cond (eqb n 3) (Misplaced line) (OutOfRange line)))))
 
-meant-meaning : (r : ListingRead) → meant (meaning r) ≡ r
-meant-meaning (Accepted rounds) = refl
-meant-meaning Invalid = refl
-meant-meaning Short = refl
-meant-meaning TooLong = refl
-meant-meaning (Malformed line) = refl
-meant-meaning (Misplaced line) = refl
-meant-meaning (OutOfRange line) = refl
+meant_meaning : (r : ListingRead) → meant (meaning r) ≡ r
+meant_meaning (Accepted rounds) = refl
+meant_meaning Invalid = refl
+meant_meaning Short = refl
+meant_meaning TooLong = refl
+meant_meaning (Malformed line) = refl
+meant_meaning (Misplaced line) = refl
+meant_meaning (OutOfRange line) = refl
 
-pub meaning-one : (r r' : ListingRead) → meaning r ≡ meaning r' → r ≡ r'
-meaning-one = apart meant meant-meaning
+pub meaning_one : (r r' : ListingRead) → meaning r ≡ meaning r' → r ≡ r'
+meaning_one = apart meant meant_meaning
 
 four : (n : ℕ) → n ≤ 4 → (n ≡ 0 → ⊥) → (n ≡ 1 → ⊥) → (n ≡ 2 → ⊥) → (n ≡ 3 → ⊥) → n ≡ 4
 four n l a b c d = omega arith
 
 -- of a text's refusals, the code's answer for a number and a line means these
-refused-means : (e : Ended) → Refusals e → (e.refusal ≡ 0 → ⊥) → meaning (refusedAs e.refusal e.line) ≡ refused e.refusal (e.line ∷ [])
-unfolding refusedAs
-refused-means e h z = go (eqb e.refusal 1) refl (eqb e.refusal 2) refl (eqb e.refusal 3) refl
+refused_means : (e : Ended) → Refusals e → (e.refusal ≡ 0 → ⊥) → meaning (refused_as e.refusal e.line) ≡ refused e.refusal (e.line ∷ [])
+unfolding refused_as
+refused_means e h z = go (eqb e.refusal 1) refl (eqb e.refusal 2) refl (eqb e.refusal 3) refl
   where
     go : (a : Bool) → eqb e.refusal 1 ≡ a → (b : Bool) → eqb e.refusal 2 ≡ b → (c : Bool) → eqb e.refusal 3 ≡ c
         → meaning (pick a TooLong (pick b (Malformed e.line) (pick c (Misplaced e.line) (OutOfRange e.line)))) ≡ refused e.refusal (e.line ∷ [])
@@ -60,73 +60,73 @@ refused-means e h z = go (eqb e.refusal 1) refl (eqb e.refusal 2) refl (eqb e.re
         rw n
 
 -- a record or an array that is refused, by its number
-module _ (m : Model) (text hs ts : List ℕ) {f : Fit} (e : f ≡ fitOf m (length hs) (length ts)) where
-  pub invalid-reads : f.refusal ≡ 6 → Reads m text hs ts hs ts Invalid
-  invalid-reads n = record {
-    answer = sym (is-invalid m (length hs) (length ts) e n _ _ _);
-    heads-left = sym (is-invalid m (length hs) (length ts) e n _ _ _);
-    triples-left = sym (is-invalid m (length hs) (length ts) e n _ _ _);
+module _ (m : Model) (text hs ts : List ℕ) {f : Fit} (e : f ≡ fit_of m (length hs) (length ts)) where
+  pub invalid_reads : f.refusal ≡ 6 → Reads m text hs ts hs ts Invalid
+  invalid_reads n = record {
+    answer = sym (is_invalid m (length hs) (length ts) e n _ _ _);
+    heads_left_lem = sym (is_invalid m (length hs) (length ts) e n _ _ _);
+    triples_left_lem = sym (is_invalid m (length hs) (length ts) e n _ _ _);
   }
 
-  pub short-reads : f.refusal ≡ 7 → Reads m text hs ts hs ts Short
-  short-reads n = record {
-    answer = sym (is-short m (length hs) (length ts) e n _ _ _);
-    heads-left = sym (is-short m (length hs) (length ts) e n _ _ _);
-    triples-left = sym (is-short m (length hs) (length ts) e n _ _ _);
+  pub short_reads : f.refusal ≡ 7 → Reads m text hs ts hs ts Short
+  short_reads n = record {
+    answer = sym (is_short m (length hs) (length ts) e n _ _ _);
+    heads_left_lem = sym (is_short m (length hs) (length ts) e n _ _ _);
+    triples_left_lem = sym (is_short m (length hs) (length ts) e n _ _ _);
   }
 
 -- where no fact has a rank, the lines of a text are those of a listing
-pub lines-read : (m : Model) (text : List ℕ) {z : Size} {e : Ended} → z ≡ size_of m
-    → e ≡ readText z (before (replicate 256 absent) (replicate 2048 absent)) text → e ≡ lines_of m text
-unfolding startState
-lines-read m text is p = p ∙ ap (λ z. readText z (before (replicate 256 absent) (replicate 2048 absent)) text) is
+pub lines_read : (m : Model) (text : List ℕ) {z : Size} {e : Ended} → z ≡ size_of m
+    → e ≡ read_text z (before (replicate 256 absent) (replicate 2048 absent)) text → e ≡ lines_of m text
+unfolding start_state
+lines_read m text is p = p ∙ ap (λ z. read_text z (before (replicate 256 absent) (replicate 2048 absent)) text) is
 
 -- else the text is read
 module _ (m : Model) (text hs ts : List ℕ) (f : Fits m (length hs) (length ts)) {e : Ended} (is : e ≡ lines_of m text) where
-  read : {hs' ts' : List ℕ} {r : ListingRead} → meaning r ≡ answer_of e → hs' ≡ headsLeft m e hs → ts' ≡ triplesLeft m e ts → Reads m text hs ts hs' ts' r
+  read : {hs' ts' : List ℕ} {r : ListingRead} → meaning r ≡ answer_of e → hs' ≡ heads_left m e hs → ts' ≡ triples_left m e ts → Reads m text hs ts hs' ts' r
   read a b c = record {
-    answer = a ∙ ap answer_of is ∙ sym (tested-well m (length hs) (length ts) f _ _ _);
-    heads-left = b ∙ ap (λ x. headsLeft m x hs) is ∙ sym (tested-well m (length hs) (length ts) f _ _ _);
-    triples-left = c ∙ ap (λ x. triplesLeft m x ts) is ∙ sym (tested-well m (length hs) (length ts) f _ _ _);
+    answer = a ∙ ap answer_of is ∙ sym (tested_well m (length hs) (length ts) f _ _ _);
+    heads_left_lem = b ∙ ap (λ x. heads_left m x hs) is ∙ sym (tested_well m (length hs) (length ts) f _ _ _);
+    triples_left_lem = c ∙ ap (λ x. triples_left m x ts) is ∙ sym (tested_well m (length hs) (length ts) f _ _ _);
   }
 
-  pub refused-reads : (e.refusal ≡ 0 → ⊥) → {r : ListingRead} → r ≡ refusedAs e.refusal e.line → Reads m text hs ts hs ts r
-  unfolding answer_of headsLeft triplesLeft
-  refused-reads z p =
-      read (ap meaning p ∙ refused-means e (subst⁻¹ Refusals is (text_of (size_of m) startState text)) z ∙ rw (ne_eqb _ _ z)) (rw (ne_eqb _ _ z)) (rw (ne_eqb _ _ z))
+  pub refused_reads : (e.refusal ≡ 0 → ⊥) → {r : ListingRead} → r ≡ refused_as e.refusal e.line → Reads m text hs ts hs ts r
+  unfolding answer_of heads_left triples_left
+  refused_reads z p =
+      read (ap meaning p ∙ refused_means e (subst⁻¹ Refusals is (text_of (size_of m) start_state text)) z ∙ rw (ne_eqb _ _ z)) (rw (ne_eqb _ _ z)) (rw (ne_eqb _ _ z))
 
-  pub accepted-reads : e.refusal ≡ 0 → {hs' ts' : List ℕ} → hs' ≡ filled (headsOf m) e.state.headcells hs → ts' ≡ filled (triplesOf m) e.state.triplecells ts
+  pub accepted_reads : e.refusal ≡ 0 → {hs' ts' : List ℕ} → hs' ≡ filled (heads_of m) e.state.headcells hs → ts' ≡ filled (triples_of m) e.state.triplecells ts
       → Reads m text hs ts hs' ts' (Accepted e.state.rounds)
-  unfolding answer_of headsLeft triplesLeft
-  accepted-reads z p q = read (rw (eq-eqb _ _ z)) (p ∙ rw (eq-eqb _ _ z)) (q ∙ rw (eq-eqb _ _ z))
+  unfolding answer_of heads_left triples_left
+  accepted_reads z p q = read (rw (eq-eqb _ _ z)) (p ∙ rw (eq-eqb _ _ z)) (q ∙ rw (eq-eqb _ _ z))
 
 -- by the numbers of cells that were measured
-module _ (m : Model) (text hs ts : List ℕ) {f : Fit} (k : f ≡ fitOf m (length hs) (length ts)) (p : f.refusal ≡ 6 → ⊥) (q : f.refusal ≡ 7 → ⊥) where
+module _ (m : Model) (text hs ts : List ℕ) {f : Fit} (k : f ≡ fit_of m (length hs) (length ts)) (p : f.refusal ≡ 6 → ⊥) (q : f.refusal ≡ 7 → ⊥) where
   fits : Fits m (length hs) (length ts)
-  fits = is-well m (length hs) (length ts) k p q
+  fits = is_well m (length hs) (length ts) k p q
 
-  pub heads-within : f.heads ≤ length hs
-  heads-within = let w = fits in omega (arith, heads-are m (length hs) (length ts) k p q, w.heads-there)
+  pub heads_within : f.heads ≤ length hs
+  heads_within = let w = fits in omega (arith, heads_are m (length hs) (length ts) k p q, w.heads_there)
 
-  pub triples-within : f.triples ≤ length ts
-  triples-within = let w = fits in omega (arith, triples-are m (length hs) (length ts) k p q, w.triples-there)
+  pub triples_within : f.triples ≤ length ts
+  triples_within = let w = fits in omega (arith, triples_are m (length hs) (length ts) k p q, w.triples_there)
 
   -- so many cells were collected
-  pub heads-few : f.heads ≤ 256
-  heads-few = omega (arith, heads-are m (length hs) (length ts) k p q, few-heads m fits.valid-model)
+  pub heads_few : f.heads ≤ 256
+  heads_few = omega (arith, heads_are m (length hs) (length ts) k p q, few_heads m fits.valid_model)
 
-  pub triples-few : f.triples ≤ 2048
-  triples-few = omega (arith, triples-are m (length hs) (length ts) k p q, few-triples m fits.valid-model)
+  pub triples_few : f.triples ≤ 2048
+  triples_few = omega (arith, triples_are m (length hs) (length ts) k p q, few_triples m fits.valid_model)
 
-  pub lines_after : {e : Ended} → e ≡ readText f.size (before (replicate 256 absent) (replicate 2048 absent)) text → e ≡ lines_of m text
-  lines_after = lines-read m text (size_is m (length hs) (length ts) k p q)
+  pub lines_after : {e : Ended} → e ≡ read_text f.size (before (replicate 256 absent) (replicate 2048 absent)) text → e ≡ lines_of m text
+  lines_after = lines_read m text (size_is m (length hs) (length ts) k p q)
 
   module _ {e : Ended} (is : e ≡ lines_of m text) where
-    pub refused-after : (e.refusal ≡ 0 → ⊥) → {r : ListingRead} → r ≡ refusedAs e.refusal e.line → Reads m text hs ts hs ts r
-    refused-after = refused-reads m text hs ts fits is
+    pub refused_after : (e.refusal ≡ 0 → ⊥) → {r : ListingRead} → r ≡ refused_as e.refusal e.line → Reads m text hs ts hs ts r
+    refused_after = refused_reads m text hs ts fits is
 
-    pub accepted-after : e.refusal ≡ 0 → {hs' ts' : List ℕ} → hs' ≡ filled f.heads e.state.headcells hs → ts' ≡ filled f.triples e.state.triplecells ts
+    pub accepted_after : e.refusal ≡ 0 → {hs' ts' : List ℕ} → hs' ≡ filled f.heads e.state.headcells hs → ts' ≡ filled f.triples e.state.triplecells ts
         → Reads m text hs ts hs' ts' (Accepted e.state.rounds)
-    accepted-after z a b =
-        accepted-reads m text hs ts fits is z (a ∙ ap (λ n. filled n e.state.headcells hs) (heads-are m (length hs) (length ts) k p q))
-        (b ∙ ap (λ n. filled n e.state.triplecells ts) (triples-are m (length hs) (length ts) k p q))
+    accepted_after z a b =
+        accepted_reads m text hs ts fits is z (a ∙ ap (λ n. filled n e.state.headcells hs) (heads_are m (length hs) (length ts) k p q))
+        (b ∙ ap (λ n. filled n e.state.triplecells ts) (triples_are m (length hs) (length ts) k p q))

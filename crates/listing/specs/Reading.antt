@@ -3,9 +3,9 @@ use Rattle.std.specs.Prelude.{List, [], ◌∷◌, ◌≡◌, ℕ, zero, suc, eq
 use Rattle.text.specs.Split.{pick}
 use Rattle.product.specs.Answer.{Answer, answered, refused}
 use Rattle.model.specs.declared.Model.{Model}
-use Rattle.fitting.specs.Fits.{size_of, headsOf, triplesOf, tested, guarded}
+use Rattle.fitting.specs.Fits.{size_of, heads_of, triples_of, tested, guarded}
 use Rattle.rows.specs.State.{Ended}
-use Rattle.rows.specs.Lines.{startState, readText}
+use Rattle.rows.specs.Lines.{start_state, read_text}
 use Rattle.listing.specs.declared.ListingRead.{ListingRead}
 use Rattle.listing.specs.declared.ListingRead.TheVariants.{Accepted, Invalid, Short, TooLong, Malformed, Misplaced, OutOfRange}
 
@@ -21,15 +21,15 @@ meaning (OutOfRange line) = refused 4 (line ∷ [])
 
 -- the lines of a listing
 abbrev pub lines_of : Model → List ℕ → Ended
-lines_of m text = readText (size_of m) startState text
+lines_of m text = read_text (size_of m) start_state text
 
 -- the rounds that were read, or the number of the refusal with its line
 unfoldable pub answer_of : Ended → Answer ℕ
 answer_of r = pick (eqb r.refusal 0) (answered r.state.rounds) (refused r.refusal (r.line ∷ []))
 
 -- the code's answer for that number and line
-unfoldable pub refusedAs : ℕ → ℕ → ListingRead
-refusedAs n line = pick (eqb n 1) TooLong (pick (eqb n 2) (Malformed line) (pick (eqb n 3) (Misplaced line) (OutOfRange line)))
+unfoldable pub refused_as : ℕ → ℕ → ListingRead
+refused_as n line = pick (eqb n 1) TooLong (pick (eqb n 2) (Malformed line) (pick (eqb n 3) (Misplaced line) (OutOfRange line)))
 
 -- the first n cells as collected, the others as before
 unfoldable pub filled : ℕ → (collected before : List ℕ) → List ℕ
@@ -37,14 +37,14 @@ filled zero xs ys = ys
 filled (suc n) xs ys = set (filled n xs ys) n (get_or xs n 0)
 
 -- of a refused reading nothing is written
-unfoldable pub headsLeft : Model → Ended → List ℕ → List ℕ
-headsLeft m r hs = pick (eqb r.refusal 0) (filled (headsOf m) r.state.headcells hs) hs
+unfoldable pub heads_left : Model → Ended → List ℕ → List ℕ
+heads_left m r hs = pick (eqb r.refusal 0) (filled (heads_of m) r.state.headcells hs) hs
 
-unfoldable pub triplesLeft : Model → Ended → List ℕ → List ℕ
-triplesLeft m r ts = pick (eqb r.refusal 0) (filled (triplesOf m) r.state.triplecells ts) ts
+unfoldable pub triples_left : Model → Ended → List ℕ → List ℕ
+triples_left m r ts = pick (eqb r.refusal 0) (filled (triples_of m) r.state.triplecells ts) ts
 
 -- the answer, and the two arrays afterwards: 6 and 7, then the text
 pub record Reads (m : Model) (text heads triples headsAfter triplesAfter : List ℕ) (r : ListingRead) : Type 0 where
   pub answer : meaning r ≡ guarded m (length heads) (length triples) (answer_of (lines_of m text))
-  pub heads-left : headsAfter ≡ tested m (length heads) (length triples) heads heads (headsLeft m (lines_of m text) heads)
-  pub triples-left : triplesAfter ≡ tested m (length heads) (length triples) triples triples (triplesLeft m (lines_of m text) triples)
+  pub heads_left_lem : headsAfter ≡ tested m (length heads) (length triples) heads heads (heads_left m (lines_of m text) heads)
+  pub triples_left_lem : triplesAfter ≡ tested m (length heads) (length triples) triples triples (triples_left m (lines_of m text) triples)

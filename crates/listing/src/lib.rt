@@ -1,7 +1,7 @@
 // Reads a listing into the two lent arrays of a table.
 ghost use Rattle.std.specs.Prelude.{◌≡◌, ℕ, ◌≤◌, length};
-ghost use Rattle.lent.specs.Lending.{modelIn};
-ghost use Rattle.listing.specs.Reading.{refusedAs, filled, Reads};
+ghost use Rattle.lent.specs.Lending.{model_in};
+ghost use Rattle.listing.specs.Reading.{refused_as, filled, Reads};
 
 use lent::Lent;
 use table::{ABSENT, Size};
@@ -20,7 +20,7 @@ pub enum ListingRead {
 
 // The answer for a refusal of 1 to 4.
 fn refused_as(n: u8, line: usize) -> ListingRead
-    ensures { result ≡ refusedAs n line }
+    ensures { result ≡ refused_as n line }
 {
     if n == 1 {
         return ListingRead::TooLong;
@@ -49,7 +49,7 @@ fn copy(from: &[u16], to: &mut [u16], n: usize)
 
 // The table of a listing, for a model: collected first, and copied into the two arrays where the whole is accepted.
 pub fn read_listing(m: &Lent, text: &[u8], heads: &mut [u16], triples: &mut [u16]) -> ListingRead
-    ensures { Reads (modelIn m.now) text.now heads.old triples.old heads.new triples.new result }
+    ensures { Reads (model_in m.now) text.now heads.old triples.old heads.new triples.new result }
 {
     let fit = fitting::measure(m, heads.len(), triples.len());
     if fit.refusal == 6 {

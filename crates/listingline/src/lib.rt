@@ -1,6 +1,6 @@
 // The words of a listing, and what one of its lines says: its word and its numbers.
 ghost use Rattle.std.specs.Prelude.{◌≡◌};
-ghost use Rattle.listingline.specs.Line.{line_at, lineFrom};
+ghost use Rattle.listingline.specs.Line.{line_at, line_from};
 
 use numbers::Numbers;
 
@@ -33,7 +33,7 @@ struct Spelt(Word, usize);
 // The word that s begins with: nearly all lines begin with one of two, which are looked for first. An unknown one has no
 // numbers: these begin past the end.
 fn word_of(s: &[u8]) -> Spelt
-    ensures { lineFrom s.now result.0 result.1 ≡ line_at s.now }
+    ensures { line_from s.now result.0 result.1 ≡ line_at s.now }
 {
     if line::spells(s, b"erase") {
         return Spelt(Word::Erase, 6);

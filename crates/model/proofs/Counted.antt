@@ -9,7 +9,7 @@ use lib.Dec.{T}
 use borrow.Author.Tests.{not-true, not-false}
 use Rattle.product.specs.Lists.{up_to, all}
 use Rattle.product.proofs.Lists.{all_append, same_truth}
-use Rattle.model.proofs.Valid.{all-below}
+use Rattle.model.proofs.Valid.{all_below}
 
 pub passed : {b t : Bool} → b ≡ t → not b ≡ false → t ≡ true
 passed {b} e n = sym e ∙ not-false b n
@@ -23,7 +23,7 @@ module _ (p : ℕ → Bool) (i : ℕ) {b : Bool} (tested : b ≡ p i) where
   more h n = rw (add-one, all_append p (up_to i) (i ∷ []), h, passed tested n)
 
   pub stop : (n : ℕ) → i < n → not b ≡ true → false ≡ all p (up_to n)
-  stop n l h = same_truth false (all p (up_to n)) (λ t. absurd t) (λ t. subst T (failed tested h) (all-below p n t i l))
+  stop n l h = same_truth false (all p (up_to n)) (λ t. absurd t) (λ t. subst T (failed tested h) (all_below p n t i l))
 
 -- all below the count have passed
 pub done : (p : ℕ → Bool) {i n : ℕ} → i ≤ n → n ≤ i → all p (up_to i) ≡ true → true ≡ all p (up_to n)

@@ -8,19 +8,19 @@ use Rattle.model.specs.declared.Rule.TheVariants.{Exit, Direct, Call}
 use Rattle.model.specs.declared.Next.{Next}
 use Rattle.model.specs.declared.Next.TheVariants.{To, Stuck}
 
-abbrev pub ruleAs : product.Rule → Rule
-ruleAs (exit g) = Exit g
-ruleAs (direct g g1) = Direct g g1
-ruleAs (call g g1 g2) = Call g g1 g2
+abbrev pub rule_as : product.Rule → Rule
+rule_as (exit g) = Exit g
+rule_as (direct g g1) = Direct g g1
+rule_as (call g g1 g2) = Call g g1 g2
 
 abbrev pub meant : Rule → product.Rule
 meant (Exit g) = exit g
 meant (Direct g g1) = direct g g1
 meant (Call g g1 g2) = call g g1 g2
 
-abbrev pub nextAs : Option ℕ → Next
-nextAs none = Stuck
-nextAs (some q) = To q
+abbrev pub next_as : Option ℕ → Next
+next_as none = Stuck
+next_as (some q) = To q
 
 abbrev pub landed : Next → Option ℕ
 landed Stuck = none

@@ -1,6 +1,6 @@
 // The words of a model text, and what one of its lines says: its word and its numbers.
 ghost use Rattle.std.specs.Prelude.{◌≡◌};
-ghost use Rattle.modelline.specs.Line.{line_at, lineFrom};
+ghost use Rattle.modelline.specs.Line.{line_at, line_from};
 
 use numbers::Numbers;
 
@@ -37,7 +37,7 @@ struct Spelt(Word, usize);
 
 // The word that s begins with. An unknown one has no numbers: these begin past the end.
 fn word_of(s: &[u8]) -> Spelt
-    ensures { lineFrom s.now result.0 result.1 ≡ line_at s.now }
+    ensures { line_from s.now result.0 result.1 ≡ line_at s.now }
 {
     if line::spells(s, b"size") {
         return Spelt(Word::Size, 5);

@@ -3,11 +3,11 @@ use mathlib.Core.Path.{◌≡◌, refl}
 use mathlib.Core.List.{[], ◌∷◌, map}
 use Rattle.text.specs.Split.{first, later, split}
 use Rattle.numbers.specs.Number.{spelled, number_of}
-use Rattle.numbers.specs.Digits.{decimalIn, decimal}
+use Rattle.numbers.specs.Digits.{decimal_in, decimal}
 use Rattle.numbers.specs.declared.Number.TheVariants.{Is, Bad}
 
 -- "0" "7" "65536" "99999" "" "00" "01" "+1" "1:" "100000"
-pub number-cases :
+pub number_cases :
     map number_of
     ((48 ∷ [])
     ∷ (55 ∷ [])
@@ -22,10 +22,10 @@ pub number-cases :
     ∷ [])
     ≡ Is 0 ∷ Is 7 ∷ Is 65536 ∷ Is 99999 ∷ Bad ∷ Bad ∷ Bad ∷ Bad ∷ Bad ∷ Bad ∷ []
 unfolding spelled number_of
-number-cases = refl
+number_cases = refl
 
 -- "" "1" "1→" "1→→2" "→", the arrow a tab
-pub split-cases :
+pub split_cases :
     map (split 9) ([] ∷ (49 ∷ []) ∷ (49 ∷ 9 ∷ []) ∷ (49 ∷ 9 ∷ 9 ∷ 50 ∷ []) ∷ (9 ∷ []) ∷ [])
     ≡ ([] ∷ [])
     ∷ ((49 ∷ []) ∷ [])
@@ -34,10 +34,10 @@ pub split-cases :
     ∷ ([] ∷ [] ∷ [])
     ∷ []
 unfolding first later
-split-cases = refl
+split_cases = refl
 
 -- 0 9 10 99 100 65535
-pub decimal-cases :
+pub decimal_cases :
     map decimal (0 ∷ 9 ∷ 10 ∷ 99 ∷ 100 ∷ 65535 ∷ [])
     ≡ (48 ∷ [])
     ∷ (57 ∷ [])
@@ -46,5 +46,5 @@ pub decimal-cases :
     ∷ (49 ∷ 48 ∷ 48 ∷ [])
     ∷ (54 ∷ 53 ∷ 53 ∷ 51 ∷ 53 ∷ [])
     ∷ []
-unfolding decimalIn
-decimal-cases = refl
+unfolding decimal_in
+decimal_cases = refl

@@ -8,17 +8,17 @@ use native.Mathlib.Omega.{arith}
 use lib.ListN.{length, get_or, take, replicate}
 use lib.Seq.{append_snoc}
 use borrow.Author.Tests.{lt-ltb, le-ltb}
-use Rattle.numbers.specs.Digits.{decimalIn, decimal, written, front, digitsOf}
+use Rattle.numbers.specs.Digits.{decimal_in, decimal, written, front, digits_of}
 use Rattle.numbers.specs.declared.Digits.{Digits}
 
 module _ (k n : ℕ) where
-  pub decimal-one : n < 10 → decimalIn (suc k) n ≡ (48 + n) ∷ []
-  unfolding decimalIn
-  decimal-one h = rw (lt-ltb n 10 h)
+  pub decimal_one : n < 10 → decimal_in (suc k) n ≡ (48 + n) ∷ []
+  unfolding decimal_in
+  decimal_one h = rw (lt-ltb n 10 h)
 
-  pub decimal-more : 10 ≤ n → decimalIn (suc k) n ≡ decimalIn k (n / 10) ++ (48 + n % 10) ∷ []
-  unfolding decimalIn
-  decimal-more h = rw (le-ltb n 10 h)
+  pub decimal_more : 10 ≤ n → decimal_in (suc k) n ≡ decimal_in k (n / 10) ++ (48 + n % 10) ∷ []
+  unfolding decimal_in
+  decimal_more h = rw (le-ltb n 10 h)
 
 -- zeros after t to fill a length, with one zero less
 zeros : (m : ℕ) → take {A = ℕ} m (replicate (suc m) 0) ≡ replicate m 0
@@ -39,9 +39,9 @@ four (a ∷ b ∷ c ∷ []) h = absurd (omega arith)
 four (a ∷ b ∷ c ∷ d ∷ l) h = refl
 
 -- a byte in front of those that are written
-front-written : (b : ℕ) (t : List ℕ) → length t < 5 → front b (written t) ≡ written (b ∷ t)
+front_written : (b : ℕ) (t : List ℕ) → length t < 5 → front b (written t) ≡ written (b ∷ t)
 unfolding written
-front-written b t h =
+front_written b t h =
     let e : 4 - length t ≡ 5 - suc (length t) = omega arith in
     ap (λ l. record { count = length t + 1; at = b ∷ l }) (fill 4 t (le_of_suc-le-suc h)) ∙ rw (add-one, e)
 
@@ -52,34 +52,34 @@ pub record Turn (n : ℕ) (d : Digits) (left : ℕ) : Type 0 where
   pub writes : d ≡ written done
   pub room : more + length done ≡ 4
   pub small : left < 10 ^ suc more
-  pub whole : decimalIn (suc more) left ++ done ≡ decimal n
+  pub whole : decimal_in (suc more) left ++ done ≡ decimal n
 
-pub first-turn : {n : ℕ} {d : Digits} → n < 100000 → d ≡ written [] → Turn n d n
-first-turn {n} h p = record { done = []; more = 4; writes = p; room = refl; small = h; whole = append-nil (decimal n) }
+pub first_turn : {n : ℕ} {d : Digits} → n < 100000 → d ≡ written [] → Turn n d n
+first_turn {n} h p = record { done = []; more = 4; writes = p; room = refl; small = h; whole = append-nil (decimal n) }
 
 module _ {n : ℕ} {d : Digits} {left : ℕ} (i : Turn n d left) where
-  pub open-place : d.count < 5
+  pub open_place : d.count < 5
   unfolding written
-  open-place = let e = ap (λ x. x.count) i.writes in let r = i.room in omega arith
+  open_place = let e = ap (λ x. x.count) i.writes in let r = i.room in omega arith
 
-  pub turn_last : left < 10 → {r : Digits} → r ≡ front (48 + left) d → r ≡ digitsOf n
+  pub turn_last : left < 10 → {r : Digits} → r ≡ front (48 + left) d → r ≡ digits_of n
   turn_last h p =
       p ∙ ap (front (48 + left)) i.writes
-      ∙ front-written (48 + left) i.done (let r = i.room in omega arith)
-      ∙ ap (λ l. written (l ++ i.done)) (sym (decimal-one i.more left h))
+      ∙ front_written (48 + left) i.done (let r = i.room in omega arith)
+      ∙ ap (λ l. written (l ++ i.done)) (sym (decimal_one i.more left h))
       ∙ ap written i.whole
 
-pub turn-next : {n : ℕ} {d : Digits} {left : ℕ} → Turn n d left → 10 ≤ left → {r : Digits} → r ≡ front (48 + left % 10) d → Turn n r (left / 10)
-turn-next {n} {d} {left} i h {r} p = go i.more i.room i.small i.whole
+pub turn_next : {n : ℕ} {d : Digits} {left : ℕ} → Turn n d left → 10 ≤ left → {r : Digits} → r ≡ front (48 + left % 10) d → Turn n r (left / 10)
+turn_next {n} {d} {left} i h {r} p = go i.more i.room i.small i.whole
   where
-    go : (more : ℕ) → more + length i.done ≡ 4 → left < 10 ^ suc more → decimalIn (suc more) left ++ i.done ≡ decimal n → Turn n r (left / 10)
+    go : (more : ℕ) → more + length i.done ≡ 4 → left < 10 ^ suc more → decimal_in (suc more) left ++ i.done ≡ decimal n → Turn n r (left / 10)
     go zero room small whole = absurd (omega arith)
     go (suc k) room small whole =
         record {
           done = (48 + left % 10) ∷ i.done;
           more = k;
-          writes = p ∙ ap (front (48 + left % 10)) i.writes ∙ front-written (48 + left % 10) i.done (omega arith);
+          writes = p ∙ ap (front (48 + left % 10)) i.writes ∙ front_written (48 + left % 10) i.done (omega arith);
           room = omega arith;
           small = let h = rw pow-suc at small in omega arith;
-          whole = sym (append_snoc (decimalIn (suc k) (left / 10)) (48 + left % 10) i.done) ∙ ap (λ l. l ++ i.done) (sym (decimal-more (suc k) left h)) ∙ whole;
+          whole = sym (append_snoc (decimal_in (suc k) (left / 10)) (48 + left % 10) i.done) ∙ ap (λ l. l ++ i.done) (sym (decimal_more (suc k) left h)) ∙ whole;
         }

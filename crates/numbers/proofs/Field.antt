@@ -9,10 +9,10 @@ use lib.ListN.{length, get_or, drop}
 use lib.Seq.{get_or-take}
 use borrow.Author.Tests.{lt-ltb, le-ltb, ne_eqb, eqb-true, eqb-false, ltb-true, ltb-false}
 use Rattle.text.specs.Split.{pick, first}
-use Rattle.text.proofs.Split.{first-take, place-within}
-use Rattle.text.proofs.Stops.{either-a, either-b, either-next, either_end, either-stop}
+use Rattle.text.proofs.Split.{first_take, place_within}
+use Rattle.text.proofs.Stops.{either_a, either_b, either_next, either_end, either_stop}
 use Rattle.numbers.specs.Number.{spelled, number_of, written}
-use Rattle.numbers.specs.Field.{field, Begins, fieldBy, field_of}
+use Rattle.numbers.specs.Field.{field, Begins, field_by, field_of}
 use Rattle.numbers.specs.declared.Number.{Number}
 use Rattle.numbers.specs.declared.Number.TheVariants.{Is, Bad}
 use Rattle.numbers.specs.declared.FieldRead.{FieldRead}
@@ -20,14 +20,14 @@ use Rattle.numbers.specs.declared.FieldRead.{FieldRead}
 -- a digit at i
 module _ (v i : ℕ) (s : List ℕ) (h : i < length s) (low : 48 ≤ get_or s i 0) (high : get_or s i 0 ≤ 57) where
   on : field (drop i s) ≡ get_or s i 0 ∷ field (drop (i + 1) s)
-  on = either-next 9 10 s i h (λ e. omega arith) (λ e. omega arith)
+  on = either_next 9 10 s i h (λ e. omega arith) (λ e. omega arith)
 
-  pub digit-reads : spelled v (field (drop i s)) ≡ spelled (v * 10 + (get_or s i 0 - 48)) (field (drop (i + 1) s))
+  pub digit_reads : spelled v (field (drop i s)) ≡ spelled (v * 10 + (get_or s i 0 - 48)) (field (drop (i + 1) s))
   unfolding spelled
-  digit-reads = rw on (simp (le-ltb _ _ low, le-ltb _ _ high))
+  digit_reads = rw on (simp (le-ltb _ _ low, le-ltb _ _ high))
 
-  pub digit-long : length (field (drop i s)) ≡ 1 + length (field (drop (i + 1) s))
-  digit-long = rw on (omega arith)
+  pub digit_long : length (field (drop i s)) ≡ 1 + length (field (drop (i + 1) s))
+  digit_long = rw on (omega arith)
 
 -- another byte, which is in the field
 other_byte : (v i : ℕ) (s : List ℕ) → (48 ≤ get_or s i 0 → get_or s i 0 ≤ 57 → ⊥) → (fs : List ℕ) → spelled v (get_or s i 0 ∷ fs) ≡ Bad
@@ -39,14 +39,14 @@ other_byte v i s n fs = go (ltb (get_or s i 0) 48) (ltb 57 (get_or s i 0)) refl 
     go false true p q = refl
     go false false p q = absurd (n (ltb-false _ _ p) (ltb-false _ _ q))
 
-other-reads : (v i : ℕ) (s : List ℕ) → (length (field (drop i s)) ≡ 0 → ⊥) → (i < length s → 48 ≤ get_or s i 0 → get_or s i 0 ≤ 57 → ⊥) → spelled v (field (drop i s)) ≡ Bad
-other-reads v i s some n = go (ltb i (length s)) (eqb (get_or s i 0) 9) (eqb (get_or s i 0) 10) refl refl refl
+other_reads : (v i : ℕ) (s : List ℕ) → (length (field (drop i s)) ≡ 0 → ⊥) → (i < length s → 48 ≤ get_or s i 0 → get_or s i 0 ≤ 57 → ⊥) → spelled v (field (drop i s)) ≡ Bad
+other_reads v i s some n = go (ltb i (length s)) (eqb (get_or s i 0) 9) (eqb (get_or s i 0) 10) refl refl refl
   where
     go : (x y z : Bool) → ltb i (length s) ≡ x → eqb (get_or s i 0) 9 ≡ y → eqb (get_or s i 0) 10 ≡ z → spelled v (field (drop i s)) ≡ Bad
     go false y z p q r = absurd (some (ap length (either_end 9 10 s i (ltb-false _ _ p))))
-    go true true z p q r = absurd (some (ap length (either-a 9 10 s i (ltb-true _ _ p) (eqb-true _ _ q))))
-    go true false true p q r = absurd (some (ap length (either-b 9 10 s i (ltb-true _ _ p) (eqb-true _ _ r))))
-    go true false false p q r = rw (either-next 9 10 s i (ltb-true _ _ p) (eqb-false _ _ q) (eqb-false _ _ r)) (other_byte v i s (n (ltb-true _ _ p)) _)
+    go true true z p q r = absurd (some (ap length (either_a 9 10 s i (ltb-true _ _ p) (eqb-true _ _ q))))
+    go true false true p q r = absurd (some (ap length (either_b 9 10 s i (ltb-true _ _ p) (eqb-true _ _ r))))
+    go true false false p q r = rw (either_next 9 10 s i (ltb-true _ _ p) (eqb-false _ _ q) (eqb-false _ _ r)) (other_byte v i s (n (ltb-true _ _ p)) _)
 
 -- no number, by what is spelled
 unspelled : (f : List ℕ) → spelled 0 f ≡ Bad → number_of f ≡ Bad
@@ -63,24 +63,24 @@ unspelled f e = rw e (go (eqb (length f) 0) (ltb 5 (length f)) (eqb (length f) 1
 -- the first byte of a field
 first_byte : (s : List ℕ) → 0 < length (field s) → get_or (field s) 0 0 ≡ get_or s 0 0
 first_byte s h =
-    let k : 0 < length (first 10 s) = omega (arith, place-within 9 (first 10 s) refl) in
-    ap (λ l. get_or l 0 0) (sym (first-take 9 (first 10 s)))
+    let k : 0 < length (first 10 s) = omega (arith, place_within 9 (first 10 s) refl) in
+    ap (λ l. get_or l 0 0) (sym (first_take 9 (first 10 s)))
     ∙ get_or-take (length (field s)) (first 10 s) 0 0 h
-    ∙ ap (λ l. get_or l 0 0) (sym (first-take 10 s))
+    ∙ ap (λ l. get_or l 0 0) (sym (first_take 10 s))
     ∙ get_or-take (length (first 10 s)) s 0 0 k
 
 -- the answers of `read_field`
 module _ (s : List ℕ) where
-  no_number : number_of (field s) ≡ Bad → {f : FieldRead} → f ≡ fieldBy Bad 0 0 → f ≡ field_of s
+  no_number : number_of (field s) ≡ Bad → {f : FieldRead} → f ≡ field_by Bad 0 0 → f ≡ field_of s
   no_number e p = p ∙ rw e
 
-  is_number : (v : ℕ) {i b : ℕ} → b ≡ get_or s i 10 → number_of (field s) ≡ Is v → length (field s) ≡ i → fieldBy (Is v) i b ≡ field_of s
+  is_number : (v : ℕ) {i b : ℕ} → b ≡ get_or s i 10 → number_of (field s) ≡ Is v → length (field s) ≡ i → field_by (Is v) i b ≡ field_of s
   is_number v p e l = rw (e, l, p)
 
 -- a field's number by how many digits it has, and the first
-number-written : (f : List ℕ) → number_of f ≡ pick (written (length f) (get_or f 0 0)) (spelled 0 f) Bad
+number_written : (f : List ℕ) → number_of f ≡ pick (written (length f) (get_or f 0 0)) (spelled 0 f) Bad
 unfolding number_of
-number-written f = go (length f) (eqb (length f) 0) (ltb 5 (length f)) (eqb (length f) 1) (eqb (get_or f 0 0) 48) refl refl refl
+number_written f = go (length f) (eqb (length f) 0) (ltb 5 (length f)) (eqb (length f) 1) (eqb (get_or f 0 0) 48) refl refl refl
   where
     go : (n : ℕ) (x y z u : Bool) → eqb n 0 ≡ x → ltb 5 n ≡ y → eqb n 1 ≡ z
         → pick x Bad (pick y Bad (pick z (spelled 0 f) (pick u Bad (spelled 0 f)))) ≡ pick (pick z true (pick x false (pick y false (pick u false true)))) (spelled 0 f) Bad
@@ -92,8 +92,8 @@ number-written f = go (length f) (eqb (length f) 0) (ltb 5 (length f)) (eqb (len
     go n false false false true p q r = refl
     go n false false false false p q r = refl
 
-written-few : (n b : ℕ) → written n b ≡ true → n ≤ 5
-written-few n b = go (eqb n 1) (eqb n 0) (ltb 5 n) refl refl refl
+written_few : (n b : ℕ) → written n b ≡ true → n ≤ 5
+written_few n b = go (eqb n 1) (eqb n 0) (ltb 5 n) refl refl refl
   where
     go : (z x y : Bool) → eqb n 1 ≡ z → eqb n 0 ≡ x → ltb 5 n ≡ y → pick z true (pick x false (pick y false (pick (eqb b 48) false true))) ≡ true → n ≤ 5
     go true x y p q r e = omega (arith, eqb-true n 1 p)
@@ -107,11 +107,11 @@ module _ (s : List ℕ) {v i b : ℕ} (g : Begins s v i b) where
   too_many h = rw (ne_eqb (length (field s)) 0 (λ e. omega (arith, g.long)), lt-ltb 5 (length (field s)) (omega (arith, g.long)))
 
   no_stop : i ≤ 5 → (length (field (drop i s)) ≡ 0 → ⊥) → number_of (field s) ≡ Bad
-  no_stop h some = unspelled (field s) (sym g.reads ∙ other-reads v i s some (g.stops h))
+  no_stop h some = unspelled (field s) (sym g.reads ∙ other_reads v i s some (g.stops h))
 
   module _ (none : length (field (drop i s)) ≡ 0) where
-    length-is : length (field s) ≡ i
-    length-is = omega (arith, g.long, none)
+    length_is : length (field s) ≡ i
+    length_is = omega (arith, g.long, none)
 
     spelled_is : spelled 0 (field s) ≡ Is v
     unfolding spelled
@@ -122,31 +122,31 @@ module _ (s : List ℕ) {v i b : ℕ} (g : Begins s v i b) where
         go (b ∷ f) e = absurd (omega arith)
 
     written_is : written (length (field s)) (get_or (field s) 0 0) ≡ written i (get_or s 0 0)
-    written_is = rw length-is (go (eqb i 0) refl)
+    written_is = rw length_is (go (eqb i 0) refl)
       where
         go : (t : Bool) → eqb i 0 ≡ t → written i (get_or (field s) 0 0) ≡ written i (get_or s 0 0)
         go true e = rw (eqb-true i 0 e)
-        go false e = ap (written i) (first_byte s (let n = eqb-false i 0 e in omega (arith, length-is)))
+        go false e = ap (written i) (first_byte s (let n = eqb-false i 0 e in omega (arith, length_is)))
 
-  pub ill-written : written i (get_or s 0 0) ≡ false → {f : FieldRead} → f ≡ fieldBy Bad 0 0 → f ≡ field_of s
-  ill-written w = no_number s (go (ltb 5 i) (eqb (length (field (drop i s))) 0) refl refl)
+  pub ill_written : written i (get_or s 0 0) ≡ false → {f : FieldRead} → f ≡ field_by Bad 0 0 → f ≡ field_of s
+  ill_written w = no_number s (go (ltb 5 i) (eqb (length (field (drop i s))) 0) refl refl)
     where
       go : (x y : Bool) → ltb 5 i ≡ x → eqb (length (field (drop i s))) 0 ≡ y → number_of (field s) ≡ Bad
       go true y p q = too_many (ltb-true 5 i p)
-      go false true p q = number-written (field s) ∙ rw (written_is (eqb-true _ 0 q), w)
+      go false true p q = number_written (field s) ∙ rw (written_is (eqb-true _ 0 q), w)
       go false false p q = no_stop (ltb-false 5 i p) (eqb-false _ 0 q)
 
   module _ (w : written i (get_or s 0 0) ≡ true) where
     empty : eqb (length (field (drop i s))) 0 ≡ (eqb b 9 || eqb b 10)
-    empty = sym (either-stop 9 10 s i) ∙ sym (ap (λ x. eqb x 9 || eqb x 10) g.next)
+    empty = sym (either_stop 9 10 s i) ∙ sym (ap (λ x. eqb x 9 || eqb x 10) g.next)
 
-    pub not-ended : (b ≡ 10 → ⊥) → (b ≡ 9 → ⊥) → {f : FieldRead} → f ≡ fieldBy Bad 0 0 → f ≡ field_of s
-    not-ended h k = no_number s (no_stop (written-few i (get_or s 0 0) w) (eqb-false _ 0 (empty ∙ rw (ne_eqb b 9 k, ne_eqb b 10 h))))
+    pub not_ended : (b ≡ 10 → ⊥) → (b ≡ 9 → ⊥) → {f : FieldRead} → f ≡ field_by Bad 0 0 → f ≡ field_of s
+    not_ended h k = no_number s (no_stop (written_few i (get_or s 0 0) w) (eqb-false _ 0 (empty ∙ rw (ne_eqb b 9 k, ne_eqb b 10 h))))
 
-    pub ended : (k : ℕ) → b ≡ k → (eqb k 9 || eqb k 10) ≡ true → fieldBy (Is v) i k ≡ field_of s
+    pub ended : (k : ℕ) → b ≡ k → (eqb k 9 || eqb k 10) ≡ true → field_by (Is v) i k ≡ field_of s
     ended k e stopped =
         let none = eqb-true _ 0 (empty ∙ ap (λ x. eqb x 9 || eqb x 10) e ∙ stopped) in
-        is_number s v (sym e ∙ g.next) (number-written (field s) ∙ rw (written_is none, w) (spelled_is none)) (length-is none)
+        is_number s v (sym e ∙ g.next) (number_written (field s) ∙ rw (written_is none, w) (spelled_is none)) (length_is none)
 
 -- a field that was read
 pub record Whole (s : List ℕ) (f : FieldRead) (v : ℕ) : Type 0 where
@@ -157,16 +157,16 @@ pub record Whole (s : List ℕ) (f : FieldRead) (v : ℕ) : Type 0 where
 pub field_is : (s : List ℕ) {f : FieldRead} → f ≡ field_of s → {v : ℕ} → f.number ≡ Is v → Whole s f v
 field_is s {f} p {v} q = go (number_of (field s)) refl p
   where
-    go : (n : Number) → number_of (field s) ≡ n → f ≡ fieldBy n (length (field s)) (get_or s (length (field s)) 10) → Whole s f v
+    go : (n : Number) → number_of (field s) ≡ n → f ≡ field_by n (length (field s)) (get_or s (length (field s)) 10) → Whole s f v
     go Bad e p = let z : ◌≡◌ {A = ℕ} 0 1 = cc in absurd (omega arith)
     go (Is w) e p = record { number = cc; end = ap (λ f. f.end) p; stop = ap (λ f. f.stop) p ∙ ap (λ x. get_or s x 10) (sym (ap (λ f. f.end) p)) }
 
-pub end-within : (s : List ℕ) {f : FieldRead} → f ≡ field_of s → {v : ℕ} → f.number ≡ Is v → f.end ≤ length s
-end-within s p q = omega (arith, (field_is s p q).end, place-within 9 (first 10 s) refl, place-within 10 s refl)
+pub end_within : (s : List ℕ) {f : FieldRead} → f ≡ field_of s → {v : ℕ} → f.number ≡ Is v → f.end ≤ length s
+end_within s p q = omega (arith, (field_is s p q).end, place_within 9 (first 10 s) refl, place_within 10 s refl)
 
-pub field-bad : (s : List ℕ) {f : FieldRead} → f ≡ field_of s → f.number ≡ Bad → number_of (field s) ≡ Bad
-field-bad s {f} p q = go (number_of (field s)) p
+pub field_bad : (s : List ℕ) {f : FieldRead} → f ≡ field_of s → f.number ≡ Bad → number_of (field s) ≡ Bad
+field_bad s {f} p q = go (number_of (field s)) p
   where
-    go : (n : Number) → f ≡ fieldBy n (length (field s)) (get_or s (length (field s)) 10) → n ≡ Bad
+    go : (n : Number) → f ≡ field_by n (length (field s)) (get_or s (length (field s)) 10) → n ≡ Bad
     go Bad p = refl
     go (Is w) p = let z : ◌≡◌ {A = ℕ} 0 1 = cc in absurd (omega arith)

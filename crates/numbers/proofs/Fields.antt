@@ -8,22 +8,22 @@ use lib.Dec.{ltb, eqb}
 use lib.ListN.{length, set, length-drop}
 use borrow.Author.Tests.{eq-eqb, ne_eqb, eqb-true, lt-ltb, le-ltb}
 use Rattle.text.specs.Split.{pick, first, later, split}
-use Rattle.numbers.specs.Number.{number_of, most, wrong, push, numbersFrom, numbersOf}
+use Rattle.numbers.specs.Number.{number_of, most, wrong, push, numbers_from, numbers_of}
 use Rattle.numbers.specs.declared.Number.{Number}
 use Rattle.numbers.specs.declared.Number.TheVariants.{Is, Bad}
 use Rattle.numbers.specs.declared.Numbers.{Numbers}
 use Rattle.numbers.specs.declared.FieldRead.{FieldRead}
 use Rattle.numbers.specs.declared.FieldsRead.{FieldsRead}
-use Rattle.numbers.specs.Field.{field, field_of, fieldsBy, fields_of}
-use Rattle.text.proofs.Lists.{tail-part}
+use Rattle.numbers.specs.Field.{field, field_of, fields_by, fields_of}
+use Rattle.text.proofs.Lists.{tail_part}
 use Rattle.text.proofs.Split.{after}
-use Rattle.text.proofs.Stops.{line-end, line_on, no_fields, fields-after, end_after, place_inside}
-use Rattle.numbers.proofs.Field.{field_is, field-bad}
+use Rattle.text.proofs.Stops.{line_end, line_on, no_fields, fields_after, end_after, place_inside}
+use Rattle.numbers.proofs.Field.{field_is, field_bad}
 
 -- a count of 0 is nothing but wrong
-pub push-none : (n : Numbers) (v : Number) → (push n v).count ≡ 0 → push n v ≡ wrong
-push-none n Bad e = refl
-push-none n (Is v) e = go (ltb n.count most) e
+pub push_none : (n : Numbers) (v : Number) → (push n v).count ≡ 0 → push n v ≡ wrong
+push_none n Bad e = refl
+push_none n (Is v) e = go (ltb n.count most) e
   where
     go : (t : Bool) → (pick t (record { count = n.count + 1; at = set n.at n.count v }) wrong).count ≡ 0
         → pick t (record { count = n.count + 1; at = set n.at n.count v }) wrong ≡ wrong
@@ -31,31 +31,31 @@ push-none n (Is v) e = go (ltb n.count most) e
     go false e = refl
 
 module _ (n : Numbers) (f : List ℕ) where
-  from-stop : (fs : List (List ℕ)) → (push n (number_of f)).count ≡ 0 → numbersFrom n (f ∷ fs) ≡ push n (number_of f)
-  unfolding numbersFrom
-  from-stop fs e = rw (eq-eqb _ _ e) (sym (push-none n (number_of f) e))
+  from_stop : (fs : List (List ℕ)) → (push n (number_of f)).count ≡ 0 → numbers_from n (f ∷ fs) ≡ push n (number_of f)
+  unfolding numbers_from
+  from_stop fs e = rw (eq-eqb _ _ e) (sym (push_none n (number_of f) e))
 
-  pub from_next : (fs : List (List ℕ)) → ((push n (number_of f)).count ≡ 0 → ⊥) → numbersFrom n (f ∷ fs) ≡ numbersFrom (push n (number_of f)) fs
-  unfolding numbersFrom
+  pub from_next : (fs : List (List ℕ)) → ((push n (number_of f)).count ≡ 0 → ⊥) → numbers_from n (f ∷ fs) ≡ numbers_from (push n (number_of f)) fs
+  unfolding numbers_from
   from_next fs e = rw (ne_eqb _ _ e)
 
-  from_last : numbersFrom n (f ∷ []) ≡ push n (number_of f)
-  unfolding numbersFrom
+  from_last : numbers_from n (f ∷ []) ≡ push n (number_of f)
+  unfolding numbers_from
   from_last = go (eqb (push n (number_of f)).count 0) refl
     where
       go : (t : Bool) → eqb (push n (number_of f)).count 0 ≡ t → pick t wrong (push n (number_of f)) ≡ push n (number_of f)
-      go true e = sym (push-none n (number_of f) (eqb-true _ _ e))
+      go true e = sym (push_none n (number_of f) (eqb-true _ _ e))
       go false e = refl
 
 -- the loop's invariant: the numbers so far and the fields of what is left of the line make the numbers of all
 pub record Turn (s : List ℕ) (n : Numbers) (rest : List ℕ) : Type 0 where
-  pub left : numbersFrom n (split 9 (first 10 rest)) ≡ numbersOf (split 9 (first 10 s))
+  pub left : numbers_from n (split 9 (first 10 rest)) ≡ numbers_of (split 9 (first 10 s))
   pub ends : length s - length rest + length (first 10 rest) ≡ length (first 10 s)
   pub fits : length rest ≤ length s
 
 -- where the loop begins
-pub first-turn : (s : List ℕ) → Turn s wrong s
-first-turn s = record { left = refl; ends = omega arith; fits = omega arith }
+pub first_turn : (s : List ℕ) → Turn s wrong s
+first_turn s = record { left = refl; ends = omega arith; fits = omega arith }
 
 -- the numbers with v behind them
 abbrev pub with : Numbers → ℕ → Numbers
@@ -63,27 +63,27 @@ with n v = record { count = n.count + 1; at = set n.at n.count v }
 
 module _ {s : List ℕ} {n : Numbers} {l : List ℕ} (i : Turn s n l) {f : FieldRead} (p : f ≡ field_of l) where
   -- the line's fields are wrong
-  wrong-line : push n (number_of (field l)) ≡ wrong → {r : FieldsRead} → r ≡ fieldsBy wrong (length (first 10 s)) → r ≡ fields_of s
-  wrong-line e q =
-      q ∙ ap (λ m. fieldsBy m (length (first 10 s))) (sym e ∙ sym (from-stop n (field l) (later 9 (first 10 l)) (ap (λ m. m.count) e)) ∙ i.left)
+  wrong_line : push n (number_of (field l)) ≡ wrong → {r : FieldsRead} → r ≡ fields_by wrong (length (first 10 s)) → r ≡ fields_of s
+  wrong_line e q =
+      q ∙ ap (λ m. fields_by m (length (first 10 s))) (sym e ∙ sym (from_stop n (field l) (later 9 (first 10 l)) (ap (λ m. m.count) e)) ∙ i.left)
 
-  pub bad-turn : f.number ≡ Bad → {r : FieldsRead} → r ≡ fieldsBy wrong (length (first 10 s)) → r ≡ fields_of s
-  bad-turn b = wrong-line (ap (push n) (field-bad l p b))
+  pub bad_turn : f.number ≡ Bad → {r : FieldsRead} → r ≡ fields_by wrong (length (first 10 s)) → r ≡ fields_of s
+  bad_turn b = wrong_line (ap (push n) (field_bad l p b))
 
   module _ {v : ℕ} (q : f.number ≡ Is v) where
-    pub full-turn : most ≤ n.count → {r : FieldsRead} → r ≡ fieldsBy wrong (length (first 10 s)) → r ≡ fields_of s
-    full-turn h = wrong-line (ap (push n) (field_is l p q).number ∙ rw (le-ltb n.count most h))
+    pub full_turn : most ≤ n.count → {r : FieldsRead} → r ≡ fields_by wrong (length (first 10 s)) → r ≡ fields_of s
+    full_turn h = wrong_line (ap (push n) (field_is l p q).number ∙ rw (le-ltb n.count most h))
 
     module _ (h : n.count < most) where
       pushed : push n (number_of (field l)) ≡ with n v
       pushed = ap (push n) (field_is l p q).number ∙ rw (lt-ltb n.count most h)
 
-      pub last_turn : f.stop ≡ 10 → fieldsBy (with n v) (length s - length l + f.end) ≡ fields_of s
+      pub last_turn : f.stop ≡ 10 → fields_by (with n v) (length s - length l + f.end) ≡ fields_of s
       last_turn g =
-          let e : length (first 10 l) ≡ f.end = line-end 9 10 l (field_is l p q).end (λ x. let z : ◌≡◌ {A = ℕ} 9 10 = x in omega arith) (sym (field_is l p q).stop ∙ g) in
-          ap (λ m. fieldsBy m (length s - length l + f.end))
-          (sym pushed ∙ sym (from_last n (field l)) ∙ ap (λ fs. numbersFrom n (field l ∷ fs)) (sym (no_fields 9 10 l (field_is l p q).end e)) ∙ i.left)
-          ∙ ap (fieldsBy (numbersOf (split 9 (first 10 s)))) (ap (λ x. length s - length l + x) (sym e) ∙ i.ends)
+          let e : length (first 10 l) ≡ f.end = line_end 9 10 l (field_is l p q).end (λ x. let z : ◌≡◌ {A = ℕ} 9 10 = x in omega arith) (sym (field_is l p q).stop ∙ g) in
+          ap (λ m. fields_by m (length s - length l + f.end))
+          (sym pushed ∙ sym (from_last n (field l)) ∙ ap (λ fs. numbers_from n (field l ∷ fs)) (sym (no_fields 9 10 l (field_is l p q).end e)) ∙ i.left)
+          ∙ ap (fields_by (numbers_of (split 9 (first 10 s)))) (ap (λ x. length s - length l + x) (sym e) ∙ i.ends)
 
       module _ (g : f.stop ≡ 10 → ⊥) where
         goes : f.end < length (first 10 l)
@@ -93,13 +93,13 @@ module _ {s : List ℕ} {n : Numbers} {l : List ℕ} (i : Turn s n l) {f : Field
         inside = place_inside 9 10 l (field_is l p q).end goes
 
         shorter : length (after f.end l) ≡ length l - (f.end + 1)
-        shorter = ap length (tail-part l (f.end + 1)) ∙ length-drop (f.end + 1) l
+        shorter = ap length (tail_part l (f.end + 1)) ∙ length-drop (f.end + 1) l
 
-        pub next-turn : Turn s (with n v) (after f.end l)
-        next-turn = record {
+        pub next_turn : Turn s (with n v) (after f.end l)
+        next_turn = record {
           left =
-              ap (numbersFrom (with n v)) (sym (fields-after 9 10 l (field_is l p q).end goes))
-              ∙ ap (λ m. numbersFrom m (later 9 (first 10 l))) (sym pushed)
+              ap (numbers_from (with n v)) (sym (fields_after 9 10 l (field_is l p q).end goes))
+              ∙ ap (λ m. numbers_from m (later 9 (first 10 l))) (sym pushed)
               ∙ sym (from_next n (field l) (later 9 (first 10 l)) (λ e. let z = sym (ap (λ m. m.count) pushed) ∙ e in omega arith))
               ∙ i.left;
           ends = let x = i.ends in let y = i.fits in omega (arith, inside, shorter, end_after 9 10 l (field_is l p q).end goes);

@@ -4,13 +4,13 @@ use Rattle.text.specs.Split.{pick}
 use Rattle.numbers.specs.declared.Digits.{Digits}
 
 -- the digits of a number below 10 to the k, the most significant first
-unfoldable pub decimalIn : ℕ → ℕ → List ℕ
-decimalIn zero n = []
-decimalIn (suc k) n = pick (ltb n 10) ((48 + n) ∷ []) (decimalIn k (n / 10) ++ (48 + n % 10) ∷ [])
+unfoldable pub decimal_in : ℕ → ℕ → List ℕ
+decimal_in zero n = []
+decimal_in (suc k) n = pick (ltb n 10) ((48 + n) ∷ []) (decimal_in k (n / 10) ++ (48 + n % 10) ∷ [])
 
 -- the digits of a number below 100,000
 abbrev pub decimal : ℕ → List ℕ
-decimal n = decimalIn 5 n
+decimal n = decimal_in 5 n
 
 -- at most five bytes with their count, and zeros after them
 unfoldable pub written : List ℕ → Digits
@@ -21,5 +21,5 @@ abbrev pub front : ℕ → Digits → Digits
 front b d = record { count = d.count + 1; at = b ∷ take 4 d.at }
 
 -- the digits of a number as the bytes of its record
-abbrev pub digitsOf : ℕ → Digits
-digitsOf n = written (decimal n)
+abbrev pub digits_of : ℕ → Digits
+digits_of n = written (decimal n)

@@ -6,7 +6,7 @@ use Rattle.numbers.specs.declared.Number.TheVariants.{Is, Bad}
 use Rattle.numbers.specs.declared.Numbers.{Numbers}
 use Rattle.numbers.specs.declared.FieldRead.{FieldRead}
 use Rattle.numbers.specs.declared.FieldsRead.{FieldsRead}
-use Rattle.numbers.specs.Number.{spelled, number_of, numbersOf}
+use Rattle.numbers.specs.Number.{spelled, number_of, numbers_of}
 
 -- what stands before the first tab or line feed
 abbrev pub field : List ℕ → List ℕ
@@ -22,16 +22,16 @@ pub record Begins (s : List ℕ) (v i b : ℕ) : Type 0 where
   pub stops : i ≤ 5 → i < length s → 48 ≤ get_or s i 0 → get_or s i 0 ≤ 57 → ⊥
 
 -- a field's number, where it ends and the byte there, zeros where it is no number; past the end there stands a line feed
-abbrev pub fieldBy : Number → (end stop : ℕ) → FieldRead
-fieldBy Bad e b = record { number = Bad; end = 0; stop = 0 }
-fieldBy (Is v) e b = record { number = Is v; end = e; stop = b }
+abbrev pub field_by : Number → (end stop : ℕ) → FieldRead
+field_by Bad e b = record { number = Bad; end = 0; stop = 0 }
+field_by (Is v) e b = record { number = Is v; end = e; stop = b }
 
 abbrev pub field_of : List ℕ → FieldRead
-field_of s = fieldBy (number_of (field s)) (length (field s)) (get_or s (length (field s)) 10)
+field_of s = field_by (number_of (field s)) (length (field s)) (get_or s (length (field s)) 10)
 
 -- the numbers of a line and where it ends
-abbrev pub fieldsBy : Numbers → ℕ → FieldsRead
-fieldsBy n e = record { numbers = n; end = e }
+abbrev pub fields_by : Numbers → ℕ → FieldsRead
+fields_by n e = record { numbers = n; end = e }
 
 abbrev pub fields_of : List ℕ → FieldsRead
-fields_of s = fieldsBy (numbersOf (split 9 (first 10 s))) (length (first 10 s))
+fields_of s = fields_by (numbers_of (split 9 (first 10 s))) (length (first 10 s))

@@ -36,13 +36,13 @@ push n Bad = wrong
 push n (Is v) = pick (ltb n.count most) (record { count = n.count + 1; at = set n.at n.count v }) wrong
 
 -- the numbers n, then those of the fields; the first field that is no number, or has no room, makes it wrong
-unfoldable pub numbersFrom : Numbers → List (List ℕ) → Numbers
-numbersFrom n [] = n
-numbersFrom n (f ∷ fs) = pick (eqb (push n (number_of f)).count 0) wrong (numbersFrom (push n (number_of f)) fs)
+unfoldable pub numbers_from : Numbers → List (List ℕ) → Numbers
+numbers_from n [] = n
+numbers_from n (f ∷ fs) = pick (eqb (push n (number_of f)).count 0) wrong (numbers_from (push n (number_of f)) fs)
 
 -- the numbers of the fields in order, `most` at the most, and zeros after them
-abbrev pub numbersOf : List (List ℕ) → Numbers
-numbersOf fs = numbersFrom wrong fs
+abbrev pub numbers_of : List (List ℕ) → Numbers
+numbers_of fs = numbers_from wrong fs
 
 -- the i-th of them, from 0; one that is not there is 0
 abbrev pub nth : Numbers → ℕ → ℕ

@@ -3,9 +3,9 @@
 ghost use Rattle.std.specs.Prelude.{◌≡◌, ℕ, ◌+◌, ◌<◌, ◌≤◌, length, get_or};
 ghost use Rattle.text.specs.Split.{first};
 ghost use Rattle.numbers.specs.Number.{written, wrong};
-ghost use Rattle.numbers.specs.Field.{field, Begins, fieldBy, field_of, fieldsBy, fields_of};
+ghost use Rattle.numbers.specs.Field.{field, Begins, field_by, field_of, fields_by, fields_of};
 ghost use Rattle.numbers.specs.declared.Number.TheVariants.{Bad};
-ghost use Rattle.numbers.specs.Digits.{front, digitsOf};
+ghost use Rattle.numbers.specs.Digits.{front, digits_of};
 
 // The most numbers that a run of fields may have.
 pub const MOST: usize = 4;
@@ -82,7 +82,7 @@ fn read_digits(s: &[u8]) -> Run
 }
 
 fn no_field() -> FieldRead
-    ensures { result ≡ fieldBy Bad 0 0 }
+    ensures { result ≡ field_by Bad 0 0 }
 {
     FieldRead {
         number: Number::Bad,
@@ -141,7 +141,7 @@ fn read_field(s: &[u8]) -> FieldRead
 
 // A line whose fields are wrong.
 fn wrong_fields(s: &[u8]) -> FieldsRead
-    ensures { result ≡ fieldsBy wrong (length (first 10 s.now)) }
+    ensures { result ≡ fields_by wrong (length (first 10 s.now)) }
 {
     let numbers = Numbers {
         count: 0,
@@ -198,7 +198,7 @@ fn put_first(b: u8, d: Digits) -> Digits
 
 // The decimal digits of n, taken off from its end.
 pub fn write_number(n: u16) -> Digits
-    ensures { result ≡ digitsOf n }
+    ensures { result ≡ digits_of n }
 {
     let mut d = Digits {
         count: 0,

@@ -2,7 +2,7 @@
 // says that something was cut, so that no place can wrap.
 ghost use Rattle.std.specs.Prelude.{◌≡◌, [], ◌∷◌};
 ghost use Rattle.product.specs.Lists.{over};
-ghost use Rattle.print.specs.Bytes.{fieldBytes, lineBytes, namedBytes};
+ghost use Rattle.print.specs.Bytes.{field_bytes, line_bytes, named_bytes};
 ghost use Rattle.text.specs.Put.{place_in, Put};
 
 // The place in n bytes, or the one that says that something was cut.
@@ -41,7 +41,7 @@ pub fn put_all(out: &mut [u8], at: usize, s: &[u8]) -> usize
 
 // Puts a tab and a number.
 pub fn put_field(out: &mut [u8], at: usize, n: u16) -> usize
-    ensures { Put out.old out.new at result (fieldBytes n) }
+    ensures { Put out.old out.new at result (field_bytes n) }
 {
     let next = put(out, at, b'\t');
     let d = numbers::write_number(n);
@@ -52,7 +52,7 @@ pub fn put_field(out: &mut [u8], at: usize, n: u16) -> usize
 
 // Puts a tab and a number for each of them.
 pub fn put_fields(out: &mut [u8], at: usize, numbers: &[u16]) -> usize
-    ensures { Put out.old out.new at result (over numbers.now fieldBytes) }
+    ensures { Put out.old out.new at result (over numbers.now field_bytes) }
 {
     let mut next = place(out.len(), at);
     let mut i: usize = 0;
@@ -65,7 +65,7 @@ pub fn put_fields(out: &mut [u8], at: usize, numbers: &[u16]) -> usize
 
 // Puts a line: a word and numbers.
 pub fn put_line(out: &mut [u8], at: usize, word: &[u8], numbers: &[u16]) -> usize
-    ensures { Put out.old out.new at result (lineBytes word.now numbers.now) }
+    ensures { Put out.old out.new at result (line_bytes word.now numbers.now) }
 {
     let fields = put_all(out, at, word);
     let end = put_fields(out, fields, numbers);
@@ -74,7 +74,7 @@ pub fn put_line(out: &mut [u8], at: usize, word: &[u8], numbers: &[u16]) -> usiz
 
 // Puts a line: a word, numbers, and a word as its last field.
 pub fn put_named(out: &mut [u8], at: usize, word: &[u8], numbers: &[u16], last: &[u8]) -> usize
-    ensures { Put out.old out.new at result (namedBytes word.now numbers.now last.now) }
+    ensures { Put out.old out.new at result (named_bytes word.now numbers.now last.now) }
 {
     let fields = put_all(out, at, word);
     let tab = put_fields(out, fields, numbers);

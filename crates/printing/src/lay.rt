@@ -1,7 +1,7 @@
 // A line put where it has room: no byte of it needs a test of its own.
 ghost use Rattle.std.specs.Prelude.{◌≡◌, ◌+◌, ◌*◌, ◌≤◌, length};
 ghost use Rattle.numbers.specs.Digits.{decimal};
-ghost use Rattle.print.specs.Bytes.{fieldBytes, lineBytes};
+ghost use Rattle.print.specs.Bytes.{field_bytes, line_bytes};
 ghost use Rattle.product.specs.Lists.{over};
 ghost use Rattle.text.specs.Put.{Put};
 
@@ -58,7 +58,7 @@ fn digits(out: &mut [u8], at: usize, n: u16) -> usize
 // A tab and a number. Most numbers have one digit.
 fn field(out: &mut [u8], at: usize, n: u16) -> usize
     requires { at + 6 ≤ length out.old }
-    ensures { Put out.old out.new at result (fieldBytes n) }
+    ensures { Put out.old out.new at result (field_bytes n) }
 {
     out[at] = b'\t';
     let first = at + 1;
@@ -71,7 +71,7 @@ fn field(out: &mut [u8], at: usize, n: u16) -> usize
 
 fn fields(out: &mut [u8], at: usize, numbers: &[u16]) -> usize
     requires { at + 6 * length numbers.now ≤ length out.old }
-    ensures { Put out.old out.new at result (over numbers.now fieldBytes) }
+    ensures { Put out.old out.new at result (over numbers.now field_bytes) }
 {
     let mut next = at;
     let mut i: usize = 0;
@@ -84,7 +84,7 @@ fn fields(out: &mut [u8], at: usize, numbers: &[u16]) -> usize
 
 pub(crate) fn line(out: &mut [u8], at: usize, s: &[u8], numbers: &[u16]) -> usize
     requires { at + length s.now + 6 * length numbers.now + 1 ≤ length out.old }
-    ensures { Put out.old out.new at result (lineBytes s.now numbers.now) }
+    ensures { Put out.old out.new at result (line_bytes s.now numbers.now) }
 {
     let first = word(out, at, s);
     let end = fields(out, first, numbers);

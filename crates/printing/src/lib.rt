@@ -1,8 +1,8 @@
 // Writes the listing of a table: `safe` with rounds and counts, then each head and each triple that is present, with its rank.
 ghost use Rattle.std.specs.Prelude.{◌≡◌, ℕ, ◌+◌, ◌-◌, ◌≤◌, length};
 ghost use Rattle.text.specs.Put.{Put};
-ghost use Rattle.lent.specs.Lending.{modelIn};
-ghost use Rattle.printing.specs.Listing.{cellBytes, ifPresent, presentIn, cellsBytes, headerBytes, listingBytes};
+ghost use Rattle.lent.specs.Lending.{model_in};
+ghost use Rattle.printing.specs.Listing.{cell_bytes, if_present, present_in, cells_bytes, header_bytes, listing_bytes};
 ghost use Rattle.printing.specs.declared.Kind.TheVariants.{Head, Triple};
 ghost use Rattle.printing.specs.Writing.{Writes, Cell, Rows, Counts, Whole};
 
@@ -30,7 +30,7 @@ pub enum Written {
 // How many of the first n cells are present.
 fn count(cells: &[u16], n: usize) -> u16
     requires { (n ≤ length cells.now) × (n ≤ 2048) }
-    ensures { result ≡ length (presentIn cells.now n) }
+    ensures { result ≡ length (present_in cells.now n) }
 {
     let mut present: u16 = 0;
     let mut i: usize = 0;
@@ -59,7 +59,7 @@ fn room(n: usize, at: usize) -> usize
 // Puts the line of the head whose cell is i.
 fn put_head(out: &mut [u8], at: usize, size: Size, i: usize, rank: u16) -> usize
     requires { Cell size i }
-    ensures { Put out.old out.new at result (cellBytes Head size.symbols size.states i rank) }
+    ensures { Put out.old out.new at result (cell_bytes Head size.symbols size.states i rank) }
 {
     let cell = i as u16;
     let g = size.symbols as u16;
@@ -73,7 +73,7 @@ fn put_head(out: &mut [u8], at: usize, size: Size, i: usize, rank: u16) -> usize
 // Puts the line of the triple whose cell is i.
 fn put_triple(out: &mut [u8], at: usize, size: Size, i: usize, rank: u16) -> usize
     requires { Cell size i }
-    ensures { Put out.old out.new at result (cellBytes Triple size.symbols size.states i rank) }
+    ensures { Put out.old out.new at result (cell_bytes Triple size.symbols size.states i rank) }
 {
     let cell = i as u16;
     let g = size.symbols as u16;
@@ -89,7 +89,7 @@ fn put_triple(out: &mut [u8], at: usize, size: Size, i: usize, rank: u16) -> usi
 // Puts the line of cell i, if it is present.
 fn put_fact(out: &mut [u8], at: usize, kind: Kind, size: Size, i: usize, rank: u16) -> usize
     requires { Cell size i × (at ≤ length out.old + 1) }
-    ensures { Put out.old out.new at result (ifPresent kind size.symbols size.states i rank) }
+    ensures { Put out.old out.new at result (if_present kind size.symbols size.states i rank) }
 {
     if rank == ABSENT {
         return at;
@@ -103,7 +103,7 @@ fn put_fact(out: &mut [u8], at: usize, kind: Kind, size: Size, i: usize, rank: u
 // Puts the lines of those, of the first n cells, that are present.
 fn put_cells(out: &mut [u8], at: usize, kind: Kind, size: Size, cells: &[u16], n: usize) -> usize
     requires { Rows size cells.now n }
-    ensures { Put out.old out.new at result (cellsBytes kind size.symbols size.states cells.now n) }
+    ensures { Put out.old out.new at result (cells_bytes kind size.symbols size.states cells.now n) }
 {
     let mut next = print::place(out.len(), at);
     let mut i: usize = 0;
@@ -124,7 +124,7 @@ fn put_header(
     t: usize,
 ) -> usize
     requires { Counts (length heads.now) (length triples.now) h t }
-    ensures { Put out.old out.new 0 result (headerBytes rounds heads.now h triples.now t) }
+    ensures { Put out.old out.new 0 result (header_bytes rounds heads.now h triples.now t) }
 {
     let row = [rounds, count(heads, h), count(triples, t)];
     print::put_line(out, 0, b"safe", &row)
@@ -141,7 +141,7 @@ fn put_listing(
     t: usize,
 ) -> usize
     requires { Whole size (length heads.now) (length triples.now) h t }
-    ensures { Put out.old out.new 0 result (listingBytes size.symbols size.states rounds heads.now triples.now) }
+    ensures { Put out.old out.new 0 result (listing_bytes size.symbols size.states rounds heads.now triples.now) }
 {
     let first = put_header(out, rounds, heads, h, triples, t);
     let next = put_cells(out, first, Kind::Head, size, heads, h);
@@ -156,7 +156,7 @@ pub fn write_listing(
     triples: &[u16],
     out: &mut [u8],
 ) -> Written
-    ensures { Writes (modelIn m.now) rounds heads.now triples.now out.old out.new result }
+    ensures { Writes (model_in m.now) rounds heads.now triples.now out.old out.new result }
 {
     let fit = fitting::measure(m, heads.len(), triples.len());
     if fit.refusal == 6 {

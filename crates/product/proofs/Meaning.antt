@@ -8,11 +8,11 @@ use Rattle.product.specs.Product.{Step, Product, InRange}
 use Rattle.product.specs.Runs.{Run, start}
 use Rattle.product.specs.Facts.{Fact, head, triple, needs, ways, Leads, Closed}
 use Rattle.product.specs.Trace.{trace}
-use Rattle.product.specs.Why.{Why, at-start}
+use Rattle.product.specs.Why.{Why, at_start}
 use Rattle.product.proofs.Lists.{All-map, All-at, All-in}
-use Rattle.product.proofs.Closed.{head-reached, triple-reached}
-use Rattle.product.proofs.Runs.{trace-run}
-use Rattle.product.proofs.Why.{Deep, explain-next, why-held}
+use Rattle.product.proofs.Closed.{head_reached, triple_reached}
+use Rattle.product.proofs.Runs.{trace_run}
+use Rattle.product.proofs.Why.{Deep, explain_next, why_held}
 
 module _ (p : Product) where
   abbrev pub Known : Fact → Type 0
@@ -28,20 +28,20 @@ module _ (p : Product) where
       let (n, l) = gathered fs h in
       (max k n, ((k, omega arith, x), All-map (Deep p n) (Deep p (max k n)) (deeper n (max k n) (omega arith)) fs l))
 
-  known-closed : Closed p Known
-  known-closed = All-in (Leads Known Known) (ways p) λ w i h.
+  known_closed : Closed p Known
+  known_closed = All-in (Leads Known Known) (ways p) λ w i h.
       let (n, l) = gathered (needs w) h in
-      let (k, _, x) = All-at (Leads (Deep p n) (Deep p (suc n))) (ways p) (explain-next p n) w i l in
+      let (k, _, x) = All-at (Leads (Deep p n) (Deep p (suc n))) (ways p) (explain_next p n) w i l in
       (k, x)
 
-  pub head-meaning : InRange p → (q g : ℕ) → Known (head q g) ↔ ((ss : List Step) × (w : List ℕ) × Run p (start p) ss (q, g ∷ w))
-  head-meaning R q g = (
-    λ (n, x). let (w, run) = trace-run p n (head q g) (why-held p R x) in (trace p n (head q g), w, run),
-    λ (ss, w, run). head-reached p R Known known-closed (0, at-start) ss q g w run,
+  pub head_meaning : InRange p → (q g : ℕ) → Known (head q g) ↔ ((ss : List Step) × (w : List ℕ) × Run p (start p) ss (q, g ∷ w))
+  head_meaning R q g = (
+    λ (n, x). let (w, run) = trace_run p n (head q g) (why_held p R x) in (trace p n (head q g), w, run),
+    λ (ss, w, run). head_reached p R Known known_closed (0, at_start) ss q g w run,
   )
 
-  pub triple-meaning : InRange p → (q g e : ℕ) → Known (triple q g e) ↔ ((ss : List Step) × Run p (q, g ∷ []) ss (e, []))
-  triple-meaning R q g e = (
-    λ (n, x). (trace p n (triple q g e), trace-run p n (triple q g e) (why-held p R x) []),
-    λ (ss, run). triple-reached p R Known known-closed ss q g e run,
+  pub triple_meaning : InRange p → (q g e : ℕ) → Known (triple q g e) ↔ ((ss : List Step) × Run p (q, g ∷ []) ss (e, []))
+  triple_meaning R q g e = (
+    λ (n, x). (trace p n (triple q g e), trace_run p n (triple q g e) (why_held p R x) []),
+    λ (ss, run). triple_reached p R Known known_closed ss q g e run,
   )

@@ -12,34 +12,34 @@ abbrev pub keeps : (Fact → Bool) → Way → Bool
 keeps t w = not (all t (needs w)) || t w.gives
 
 -- every consequence of a rule and a move is present
-abbrev pub closedAt : Product → (Fact → Bool) → Step → Bool
-closedAt p t s = all (keeps t) (ways_of p s)
+abbrev pub closed_at : Product → (Fact → Bool) → Step → Bool
+closed_at p t s = all (keeps t) (ways_of p s)
 
 -- no violating fact is present
 abbrev pub clean : Product → (Fact → Bool) → Bool
 clean p t = all (λ f. not (violating p f && t f)) (cells p)
 
 unfoldable pub accepts : Product → (Fact → Bool) → Bool
-accepts p t = t (first p) && clean p t && all (closedAt p t) (pairs p)
+accepts p t = t (first p) && clean p t && all (closed_at p t) (pairs p)
 
 -- accepted; or a reason (1 start, 2 violating, 3 not closed) with a rule and a move, which are 0 where there are none
 pub data Checked : Type 0 where
   passes : Checked
-  fails : (reason by-rule by_move : ℕ) → Checked
+  fails : (reason by_rule by_move : ℕ) → Checked
 
 abbrev pub open_at : Option Step → Checked
 open_at none = passes
-open_at (some s) = fails 3 s.by-rule s.by_move
+open_at (some s) = fails 3 s.by_rule s.by_move
 
 -- the first reason that applies; of those not closed the first rule, and then the first move
 unfoldable pub checked : Product → (Fact → Bool) → Checked
 checked p t =
     elim (t (first p)) [
       | false ↦ fails 1 0 0
-      | true ↦ elim (clean p t) [ false ↦ fails 2 0 0 | true ↦ open_at (find (λ s. not (closedAt p t s)) (pairs p)) ]
+      | true ↦ elim (clean p t) [ false ↦ fails 2 0 0 | true ↦ open_at (find (λ s. not (closed_at p t s)) (pairs p)) ]
     ]
 
 -- by the document's number: 11, with the reason, the rule and the move
-abbrev pub checkAnswer : Checked → Answer Acceptance
-checkAnswer passes = answered accepted
-checkAnswer (fails reason r v) = refused 11 (reason ∷ r ∷ v ∷ [])
+abbrev pub check_answer : Checked → Answer Acceptance
+check_answer passes = answered accepted
+check_answer (fails reason r v) = refused 11 (reason ∷ r ∷ v ∷ [])

@@ -2,7 +2,7 @@
 use Rattle.std.specs.Prelude.{Bool, false, ◌&&◌, List, [], ◌∷◌, ◌++◌, ℕ, eqb}
 use Rattle.std.proofs.Math.Option.{Option, none, some}
 use Rattle.product.specs.Lists.{up_to, over, each, All}
-use Rattle.product.specs.Product.{Rule, exit, direct, call, Step, Product, ruleOf}
+use Rattle.product.specs.Product.{Rule, exit, direct, call, Step, Product, rule_of}
 
 -- head q g: some run from the start has property state q with g on top.
 -- triple q g e: some run goes from q over the stack g alone to e over the empty stack.
@@ -17,7 +17,7 @@ same (triple q g e) (head q' g') = false
 same (triple q g e) (triple q' g' e') = eqb q q' && eqb g g' && eqb e e'
 
 abbrev pub first : Product → Fact
-first p = head p.start-state p.start-symbol
+first p = head p.start_state p.start_symbol
 
 -- all facts of the product, in the order of their cells: heads before triples, then by state, symbol, end state
 abbrev pub cells : Product → List Fact
@@ -63,17 +63,17 @@ consequences S s q q' (direct g g1) = enters s q g q' g1 ∷ each S (backs s q g
 consequences S s q q' (call g g1 g2) =
     enters s q g q' g1 ∷ each S (returns s q g q' g1 g2) ++ over S (λ e. each S (meets s q g q' g1 g2 e))
 
-abbrev pub waysTo : Product → Step → ℕ → Option ℕ → List Way
-waysTo p s q none = []
-waysTo p s q (some q') = consequences p.states s q q' (ruleOf p s)
+abbrev pub ways_to : Product → Step → ℕ → Option ℕ → List Way
+ways_to p s q none = []
+ways_to p s q (some q') = consequences p.states s q q' (rule_of p s)
 
 -- the ways of a rule and a move, from each state
 abbrev pub ways_of : Product → Step → List Way
-ways_of p s = over p.states (λ q. waysTo p s q (p.next s q))
+ways_of p s = over p.states (λ q. ways_to p s q (p.next s q))
 
 -- every rule with every move: rule by rule, and move by move
 abbrev pub pairs : Product → List Step
-pairs p = over (up_to p.rules) (λ r. each (up_to p.moves) (λ v. record { by-rule = r; by_move = v }))
+pairs p = over (up_to p.rules) (λ r. each (up_to p.moves) (λ v. record { by_rule = r; by_move = v }))
 
 -- all ways of the product, in the order in which an explanation is looked for
 abbrev pub ways : Product → List Way

@@ -19,20 +19,20 @@ explanation p n f = find (works (held p n) f) (ways p)
 abbrev pub along : (Fact → List Step) → Way → List Step
 along t w = over w.before t ++ w.by ∷ over w.after t
 
-abbrev pub alongFound : (Fact → List Step) → Option Way → List Step
-alongFound t none = []
-alongFound t (some w) = along t w
+abbrev pub along_found : (Fact → List Step) → Option Way → List Step
+along_found t none = []
+along_found t (some w) = along t w
 
 -- The steps of a fact that is held after round n: those of an earlier round if it was held there, else those of its explanation, unfolded.
 -- The start head unfolds to nothing.
 unfoldable pub trace : Product → ℕ → Fact → List Step
 trace p zero f = []
-trace p (suc n) f = cond (held p n f) (trace p n f) (alongFound (trace p n) (explanation p n f))
+trace p (suc n) f = cond (held p n f) (trace p n f) (along_found (trace p n) (explanation p n f))
 
-abbrev pub traceTo : Product → ℕ → Option Fact → List Step
-traceTo p n none = []
-traceTo p n (some f) = trace p n f
+abbrev pub trace_to : Product → ℕ → Option Fact → List Step
+trace_to p n none = []
+trace_to p n (some f) = trace p n f
 
-abbrev pub traceOf : Product → Verdict → List Step
-traceOf p (violation n) = traceTo p n (culprit p n)
-traceOf p (safe n) = []
+abbrev pub trace_of : Product → Verdict → List Step
+trace_of p (violation n) = trace_to p n (culprit p n)
+trace_of p (safe n) = []

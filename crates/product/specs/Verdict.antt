@@ -9,7 +9,7 @@ use Rattle.product.specs.Rounds.{held, news}
 -- a head in a final state, and the triple from the start state and start symbol into a final state: there the stack ends empty
 abbrev pub violating : Product → Fact → Bool
 violating p (head q g) = p.final q
-violating p (triple q g e) = eqb q p.start-state && eqb g p.start-symbol && p.final e
+violating p (triple q g e) = eqb q p.start_state && eqb g p.start_symbol && p.final e
 
 -- a violating fact is held after round n
 unfoldable pub violated : Product → ℕ → Bool
@@ -42,15 +42,15 @@ abbrev pub IsVerdict : Product → Verdict → Type 0
 IsVerdict p v = ((k : ℕ) → k < rounds v → GoesOn p k) × Ends p v
 
 -- the verdict from round n on, if k rounds from there are enough
-unfoldable pub answerFrom : Product → ℕ → ℕ → Option Verdict
-answerFrom p zero n = none
-answerFrom p (suc k) n =
-    elim (violated p n) [ true ↦ some (violation n) | false ↦ elim (adds p n) [ true ↦ answerFrom p k (suc n) | false ↦ some (safe n) ] ]
+unfoldable pub answer_from : Product → ℕ → ℕ → Option Verdict
+answer_from p zero n = none
+answer_from p (suc k) n =
+    elim (violated p n) [ true ↦ some (violation n) | false ↦ elim (adds p n) [ true ↦ answer_from p k (suc n) | false ↦ some (safe n) ] ]
 
 -- the answer under a budget of rounds; none is refusal 8
 unfoldable pub answer : Product → ℕ → Option Verdict
-unfolding answerFrom
-answer p budget = answerFrom p (suc budget) 0
+unfolding answer_from
+answer p budget = answer_from p (suc budget) 0
 
 -- the rounds that an answer has run: those of the verdict, or the whole budget
 abbrev pub ran : ℕ → Option Verdict → ℕ

@@ -5,52 +5,52 @@ use mathlib.Core.List.{List}
 use Prim.Native.Nat.{ℕ, ◌<◌, ◌≤◌}
 use borrow.Author.Tests.{lt-ltb, le-ltb, eq-eqb, ne_eqb}
 use Rattle.product.specs.Table.{absent}
-use Rattle.ranking.specs.Rank.{largest, faultOf, counted, Ranked}
+use Rattle.ranking.specs.Rank.{largest, fault_of, counted, Ranked}
 
 -- by the count of the line's numbers
 module _ (count takes fault : ℕ) where
   pub miscounted : (count ≡ takes → ⊥) → 2 ≡ counted count takes fault
   miscounted h = rw (ne_eqb _ _ h)
 
-  pub well-counted : count ≡ takes → {r : ℕ} {before after put : List ℕ} → Ranked before after fault put r → Ranked before after (counted count takes fault) put r
-  well-counted h x = rw (eq-eqb _ _ h) x
+  pub well_counted : count ≡ takes → {r : ℕ} {before after put : List ℕ} → Ranked before after fault put r → Ranked before after (counted count takes fault) put r
+  well_counted h x = rw (eq-eqb _ _ h) x
 
 -- the fault of a fact's line
 module _ (begun held : ℕ) (inside : Bool) (rank : ℕ) where
-  pub fault-early : begun ≡ 0 → 3 ≡ faultOf begun held inside rank
-  unfolding faultOf
-  fault-early h = rw (eq-eqb _ _ h)
+  pub fault_early : begun ≡ 0 → 3 ≡ fault_of begun held inside rank
+  unfolding fault_of
+  fault_early h = rw (eq-eqb _ _ h)
 
   module _ (h : begun ≡ 0 → ⊥) where
-    pub fault-twice : (held ≡ absent → ⊥) → 3 ≡ faultOf begun held inside rank
-    unfolding faultOf
-    fault-twice k = rw (ne_eqb _ _ h, ne_eqb _ _ k)
+    pub fault_twice : (held ≡ absent → ⊥) → 3 ≡ fault_of begun held inside rank
+    unfolding fault_of
+    fault_twice k = rw (ne_eqb _ _ h, ne_eqb _ _ k)
 
     module _ (k : held ≡ absent) where
-      pub fault-outside : inside ≡ false → 4 ≡ faultOf begun held inside rank
-      unfolding faultOf
-      fault-outside i = rw (ne_eqb _ _ h, eq-eqb _ _ k, i)
+      pub fault_outside : inside ≡ false → 4 ≡ fault_of begun held inside rank
+      unfolding fault_of
+      fault_outside i = rw (ne_eqb _ _ h, eq-eqb _ _ k, i)
 
-      pub fault-large : inside ≡ true → largest < rank → 4 ≡ faultOf begun held inside rank
-      unfolding faultOf
-      fault-large i l = rw (ne_eqb _ _ h, eq-eqb _ _ k, i, lt-ltb _ _ l)
+      pub fault_large : inside ≡ true → largest < rank → 4 ≡ fault_of begun held inside rank
+      unfolding fault_of
+      fault_large i l = rw (ne_eqb _ _ h, eq-eqb _ _ k, i, lt-ltb _ _ l)
 
-      pub fault-none : inside ≡ true → rank ≤ largest → 0 ≡ faultOf begun held inside rank
-      unfolding faultOf
-      fault-none i l = rw (ne_eqb _ _ h, eq-eqb _ _ k, i, le-ltb _ _ l)
+      pub fault_none : inside ≡ true → rank ≤ largest → 0 ≡ fault_of begun held inside rank
+      unfolding fault_of
+      fault_none i l = rw (ne_eqb _ _ h, eq-eqb _ _ k, i, le-ltb _ _ l)
 
 -- what is left of the cells, by the number that was found
 module _ {before put : List ℕ} {f g : ℕ} (e : f ≡ g) where
-  pub not-ranked : (f ≡ 0 → ⊥) → Ranked before before g put f
-  not-ranked h = record { answers = e; leaves = rw (← e, ne_eqb _ _ h) }
+  pub not_ranked : (f ≡ 0 → ⊥) → Ranked before before g put f
+  not_ranked h = record { answers = e; leaves = rw (← e, ne_eqb _ _ h) }
 
-pub is-ranked : {before put after : List ℕ} {g : ℕ} → 0 ≡ g → after ≡ put → Ranked before after g put 0
-is-ranked e k = record { answers = e; leaves = k ∙ rw (← e) }
+pub is_ranked : {before put after : List ℕ} {g : ℕ} → 0 ≡ g → after ≡ put → Ranked before after g put 0
+is_ranked e k = record { answers = e; leaves = k ∙ rw (← e) }
 
 -- without a refusal the rank stands there, and with one nothing changes
 module _ {before after put : List ℕ} {g r : ℕ} (x : Ranked before after g put r) where
-  pub ranked-cells : r ≡ 0 → after ≡ put
-  ranked-cells h = x.leaves ∙ rw (eq-eqb g 0 (sym x.answers ∙ h))
+  pub ranked_cells : r ≡ 0 → after ≡ put
+  ranked_cells h = x.leaves ∙ rw (eq-eqb g 0 (sym x.answers ∙ h))
 
-  pub unranked-cells : (r ≡ 0 → ⊥) → after ≡ before
-  unranked-cells h = x.leaves ∙ rw (ne_eqb g 0 (λ e. h (x.answers ∙ e)))
+  pub unranked_cells : (r ≡ 0 → ⊥) → after ≡ before
+  unranked_cells h = x.leaves ∙ rw (ne_eqb g 0 (λ e. h (x.answers ∙ e)))

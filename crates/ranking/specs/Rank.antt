@@ -15,36 +15,36 @@ largest = 65534
 
 -- Why the line of a fact is refused, and 0 if it is not: no `safe` before it, the fact is held already, its numbers are not inside their range, its
 -- rank is not. `held` is what stands in the fact's cell; a fact that has no cell is held as absent.
-unfoldable pub faultOf : (begun held : ℕ) → (inside : Bool) → (rank : ℕ) → ℕ
-faultOf begun held inside rank =
+unfoldable pub fault_of : (begun held : ℕ) → (inside : Bool) → (rank : ℕ) → ℕ
+fault_of begun held inside rank =
     pick (eqb begun 0) 3
     (pick (eqb held absent) (pick inside (pick (ltb largest rank) 4 0) 4)
     3)
 
 -- by the fact, the cells of its kind, and its rank: the fault, and the cells with the rank put
-abbrev pub rankFault : Size → (begun : ℕ) → (cells : List ℕ) → Fact → (rank : ℕ) → ℕ
-rankFault z begun cells f rank = faultOf begun (view z.symbols z.states cells cells f) (inside z.symbols z.states f) rank
+abbrev pub rank_fault : Size → (begun : ℕ) → (cells : List ℕ) → Fact → (rank : ℕ) → ℕ
+rank_fault z begun cells f rank = fault_of begun (view z.symbols z.states cells cells f) (inside z.symbols z.states f) rank
 
-abbrev pub rankPut : Size → (cells : List ℕ) → Fact → (rank : ℕ) → List ℕ
-rankPut z cells f rank = put_in z.symbols z.states cells f rank
+abbrev pub rank_put : Size → (cells : List ℕ) → Fact → (rank : ℕ) → List ℕ
+rank_put z cells f rank = put_in z.symbols z.states cells f rank
 
 -- a line with another count of numbers than its word takes is malformed, whatever else is wrong with it
 abbrev pub counted : (count takes fault : ℕ) → ℕ
 counted count takes fault = pick (eqb count takes) fault 2
 
 -- `head` state symbol rank
-abbrev pub headFault : Size → (begun : ℕ) → (cells : List ℕ) → Numbers → ℕ
-headFault z begun cells n = counted n.count 3 (rankFault z begun cells (head (nth n 0) (nth n 1)) (nth n 2))
+abbrev pub head_fault : Size → (begun : ℕ) → (cells : List ℕ) → Numbers → ℕ
+head_fault z begun cells n = counted n.count 3 (rank_fault z begun cells (head (nth n 0) (nth n 1)) (nth n 2))
 
-abbrev pub headPut : Size → (cells : List ℕ) → Numbers → List ℕ
-headPut z cells n = rankPut z cells (head (nth n 0) (nth n 1)) (nth n 2)
+abbrev pub head_put : Size → (cells : List ℕ) → Numbers → List ℕ
+head_put z cells n = rank_put z cells (head (nth n 0) (nth n 1)) (nth n 2)
 
 -- `erase` state symbol endstate rank
-abbrev pub tripleFault : Size → (begun : ℕ) → (cells : List ℕ) → Numbers → ℕ
-tripleFault z begun cells n = counted n.count 4 (rankFault z begun cells (triple (nth n 0) (nth n 1) (nth n 2)) (nth n 3))
+abbrev pub triple_fault : Size → (begun : ℕ) → (cells : List ℕ) → Numbers → ℕ
+triple_fault z begun cells n = counted n.count 4 (rank_fault z begun cells (triple (nth n 0) (nth n 1) (nth n 2)) (nth n 3))
 
-abbrev pub triplePut : Size → (cells : List ℕ) → Numbers → List ℕ
-triplePut z cells n = rankPut z cells (triple (nth n 0) (nth n 1) (nth n 2)) (nth n 3)
+abbrev pub triple_put : Size → (cells : List ℕ) → Numbers → List ℕ
+triple_put z cells n = rank_put z cells (triple (nth n 0) (nth n 1) (nth n 2)) (nth n 3)
 
 -- the fault is answered, and without one the cells are as they are put
 pub record Ranked (before after : List ℕ) (fault : ℕ) (put : List ℕ) (r : ℕ) : Type 0 where

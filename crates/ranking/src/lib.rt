@@ -1,6 +1,6 @@
 // The rank that a line of a listing gives to a fact: put into the fact's cell, or refused.
 ghost use Rattle.table.specs.Places.{fact_of};
-ghost use Rattle.ranking.specs.Rank.{rankFault, headFault, headPut, tripleFault, triplePut, rankPut, Ranked};
+ghost use Rattle.ranking.specs.Rank.{rank_fault, head_fault, head_put, triple_fault, triple_put, rank_put, Ranked};
 
 use numbers::Numbers;
 use table::{ABSENT, Fact, Place, Size};
@@ -10,7 +10,7 @@ pub const LARGEST: u32 = 65534;
 
 // Gives a fact its rank; the answer is the document's number of the refusal, or 0. A fact outside its range has no cell, and is held by none.
 fn rank_fact(cells: &mut [u16], size: Size, begun: u8, f: Fact, rank: u32) -> u8
-    ensures { Ranked cells.old cells.new (rankFault size begun cells.old (fact_of f) rank) (rankPut size cells.old (fact_of f) rank) result }
+    ensures { Ranked cells.old cells.new (rank_fault size begun cells.old (fact_of f) rank) (rank_put size cells.old (fact_of f) rank) result }
 {
     if begun == 0 {
         return 3;
@@ -32,7 +32,7 @@ fn rank_fact(cells: &mut [u16], size: Size, begun: u8, f: Fact, rank: u32) -> u8
 
 // A head's line: its state, symbol and rank. Another count of numbers is malformed, whatever else is wrong.
 pub fn rank_head(cells: &mut [u16], size: Size, begun: u8, n: Numbers) -> u8
-    ensures { Ranked cells.old cells.new (headFault size begun cells.old n) (headPut size cells.old n) result }
+    ensures { Ranked cells.old cells.new (head_fault size begun cells.old n) (head_put size cells.old n) result }
 {
     if n.count != 3 {
         return 2;
@@ -44,7 +44,7 @@ pub fn rank_head(cells: &mut [u16], size: Size, begun: u8, n: Numbers) -> u8
 
 // A triple's line, likewise: its state, symbol, end state and rank.
 pub fn rank_triple(cells: &mut [u16], size: Size, begun: u8, n: Numbers) -> u8
-    ensures { Ranked cells.old cells.new (tripleFault size begun cells.old n) (triplePut size cells.old n) result }
+    ensures { Ranked cells.old cells.new (triple_fault size begun cells.old n) (triple_put size cells.old n) result }
 {
     if n.count != 4 {
         return 2;

@@ -11,8 +11,8 @@ use Rattle.reader.specs.Says.{Said}
 abbrev pub row : List ℕ → List ℕ → List ℕ
 row word ns = word ++ over ns (λ n. 9 ∷ (48 + n) ∷ []) ++ 10 ∷ []
 
-abbrev pub textA : List ℕ
-textA =
+abbrev pub text_a : List ℕ
+text_a =
     row size (4 ∷ 2 ∷ 2 ∷ [])
     ++ row start (0 ∷ 0 ∷ [])
     ++ row final (1 ∷ [])
@@ -23,8 +23,8 @@ textA =
     ++ row move (0 ∷ 0 ∷ 0 ∷ [])
     ++ row move (0 ∷ 1 ∷ 1 ∷ [])
 
-abbrev pub saidA : Said
-saidA = record {
+abbrev pub said_a : Said
+said_a = record {
   sizes = (4, 2, 2) ∷ [];
   starts = (0, 0) ∷ [];
   finals = 1 ∷ [];
@@ -58,8 +58,8 @@ least = row size (1 ∷ 1 ∷ 1 ∷ [])
 
 unfoldable pub cases : List Case
 cases =
-    (textA gives accepted)
-    ∷ (take 20 textA gives refusal 2 2)
+    (text_a gives accepted)
+    ∷ (take 20 text_a gives refusal 2 2)
     ∷ ([] gives refusal 3 0)
     ∷ (10 ∷ [] gives refusal 2 1)
     ∷ (row start (0 ∷ 0 ∷ []) gives refusal 3 1)

@@ -32,11 +32,11 @@ empty = record {
 }
 
 -- the record that is left: of a text that is refused the empty one
-abbrev pub modelOf : Answer Model → Model
-modelOf (answered m) = m
-modelOf (refused number values) = empty
+abbrev pub model_of : Answer Model → Model
+model_of (answered m) = m
+model_of (refused number values) = empty
 
 -- The contract, for a text whose reading is a: the code's answer r, and the lent bytes afterwards.
 pub record Read (a : Answer Model) (r : Reading) (cells : List ℕ) : Type 0 where
-  pub answer : meaning r (modelOf a) ≡ a
-  pub bytes : cells ≡ packed (modelOf a)
+  pub answer : meaning r (model_of a) ≡ a
+  pub bytes : cells ≡ packed (model_of a)

@@ -25,43 +25,43 @@ pub record Said : Type 0 where
 abbrev pub nothing : Said
 nothing = record { sizes = []; starts = []; finals = []; events = []; rules = []; moves = [] }
 
-abbrev pub addSize : Said → (g q e : ℕ) → Said
-addSize s g q e = record { sizes = s.sizes ++ (g, q, e) ∷ []; starts = s.starts; finals = s.finals; events = s.events; rules = s.rules; moves = s.moves }
+abbrev pub add_size : Said → (g q e : ℕ) → Said
+add_size s g q e = record { sizes = s.sizes ++ (g, q, e) ∷ []; starts = s.starts; finals = s.finals; events = s.events; rules = s.rules; moves = s.moves }
 
-abbrev pub addStart : Said → (q g : ℕ) → Said
-addStart s q g = record { sizes = s.sizes; starts = s.starts ++ (q, g) ∷ []; finals = s.finals; events = s.events; rules = s.rules; moves = s.moves }
+abbrev pub add_start : Said → (q g : ℕ) → Said
+add_start s q g = record { sizes = s.sizes; starts = s.starts ++ (q, g) ∷ []; finals = s.finals; events = s.events; rules = s.rules; moves = s.moves }
 
-abbrev pub addFinal : Said → ℕ → Said
-addFinal s q = record { sizes = s.sizes; starts = s.starts; finals = s.finals ++ q ∷ []; events = s.events; rules = s.rules; moves = s.moves }
+abbrev pub add_final : Said → ℕ → Said
+add_final s q = record { sizes = s.sizes; starts = s.starts; finals = s.finals ++ q ∷ []; events = s.events; rules = s.rules; moves = s.moves }
 
-abbrev pub addEvent : Said → (g e : ℕ) → Said
-addEvent s g e = record { sizes = s.sizes; starts = s.starts; finals = s.finals; events = s.events ++ (g, e) ∷ []; rules = s.rules; moves = s.moves }
+abbrev pub add_event : Said → (g e : ℕ) → Said
+add_event s g e = record { sizes = s.sizes; starts = s.starts; finals = s.finals; events = s.events ++ (g, e) ∷ []; rules = s.rules; moves = s.moves }
 
-abbrev pub addRule : Said → Rule → Said
-addRule s ρ = record { sizes = s.sizes; starts = s.starts; finals = s.finals; events = s.events; rules = s.rules ++ ρ ∷ []; moves = s.moves }
+abbrev pub add_rule : Said → Rule → Said
+add_rule s ρ = record { sizes = s.sizes; starts = s.starts; finals = s.finals; events = s.events; rules = s.rules ++ ρ ∷ []; moves = s.moves }
 
-abbrev pub addMove : Said → declared.Move → Said
-addMove s μ = record { sizes = s.sizes; starts = s.starts; finals = s.finals; events = s.events; rules = s.rules; moves = s.moves ++ μ ∷ [] }
+abbrev pub add_move : Said → declared.Move → Said
+add_move s μ = record { sizes = s.sizes; starts = s.starts; finals = s.finals; events = s.events; rules = s.rules; moves = s.moves ++ μ ∷ [] }
 
 -- one more line, by its word and its numbers
 abbrev pub more : Said → Word → Numbers → Said
-more s Size n = addSize s (nth n 0) (nth n 1) (nth n 2)
-more s Start n = addStart s (nth n 0) (nth n 1)
-more s Final n = addFinal s (nth n 0)
-more s Event n = addEvent s (nth n 0) (nth n 1)
-more s Exit n = addRule s (exit (nth n 0))
-more s Direct n = addRule s (direct (nth n 0) (nth n 1))
-more s Call n = addRule s (call (nth n 0) (nth n 1) (nth n 2))
-more s Move n = addMove s (record { source = nth n 0; event = nth n 1; target = nth n 2 })
+more s Size n = add_size s (nth n 0) (nth n 1) (nth n 2)
+more s Start n = add_start s (nth n 0) (nth n 1)
+more s Final n = add_final s (nth n 0)
+more s Event n = add_event s (nth n 0) (nth n 1)
+more s Exit n = add_rule s (exit (nth n 0))
+more s Direct n = add_rule s (direct (nth n 0) (nth n 1))
+more s Call n = add_rule s (call (nth n 0) (nth n 1) (nth n 2))
+more s Move n = add_move s (record { source = nth n 0; event = nth n 1; target = nth n 2 })
 more s Unknown n = s
 
-abbrev pub andLine : Said → Line → Said
-andLine s l = more s l.word l.numbers
+abbrev pub and_line : Said → Line → Said
+and_line s l = more s l.word l.numbers
 
 -- the pieces between line feeds, of which all but the last are lines
 abbrev pub gathered : Said → List ℕ → List (List ℕ) → Said
 gathered s l [] = s
-gathered s l (k ∷ ls) = gathered (andLine s (line_of (split 9 l))) k ls
+gathered s l (k ∷ ls) = gathered (and_line s (line_of (split 9 l))) k ls
 
 -- what the lines of a text say
 unfoldable pub said : List ℕ → Said

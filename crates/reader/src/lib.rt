@@ -7,7 +7,7 @@ ghost use Rattle.model.specs.declared.Model.{Model};
 ghost use Rattle.draft.specs.Draft.{Draft};
 ghost use Rattle.draft.specs.Written.{Stands};
 ghost use Rattle.reader.specs.Reading.{meaning, Read};
-ghost use Rattle.reader.specs.Text.{noOutline, last_of, fresh, finished, readFrom, readModel};
+ghost use Rattle.reader.specs.Text.{no_outline, last_of, fresh, finished, read_from, read_model};
 
 use draft::Outline;
 use lent::Lent;
@@ -60,7 +60,7 @@ fn numbered(n: u8, line: usize) -> Reading
 }
 
 fn no_outline() -> Outline
-    ensures { result ≡ noOutline }
+    ensures { result ≡ no_outline }
 {
     let counts = Counts {
         symbols: 0,
@@ -109,7 +109,7 @@ fn finish(m: &mut Lent, o: Outline) -> Reading
 fn read_lines(text: &[u8], m: &mut Lent) -> Reading
     requires text_len_bound { length text.now ≤ 16384 }
     requires m_value { m.old ≡ replicate 1936 0 }
-    ensures { Read (readFrom 1 fresh (first 10 text.now) (later 10 text.now)) result m.new }
+    ensures { Read (read_from 1 fresh (first 10 text.now) (later 10 text.now)) result m.new }
 {
     let mut o = no_outline();
     let mut left = text;
@@ -136,7 +136,7 @@ fn read_lines(text: &[u8], m: &mut Lent) -> Reading
 
 // Reads the model of a text. A text that is refused leaves the bytes of the empty record.
 pub fn read_model(text: &[u8], m: &mut Lent) -> Reading
-    ensures { Read (readModel text.now) result m.new }
+    ensures { Read (read_model text.now) result m.new }
 {
     clear(m);
     if LONGEST < text.len() {

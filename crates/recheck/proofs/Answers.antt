@@ -10,48 +10,48 @@ use lib.ListN.{length}
 use Rattle.product.specs.Answer.{Answer, answered, refused, Acceptance, accepted}
 use Rattle.product.specs.Product.{Step}
 use Rattle.product.specs.Runs.{State, Reaches}
-use Rattle.product.specs.Check.{accepts, Checked, passes, fails, checked, checkAnswer}
+use Rattle.product.specs.Check.{accepts, Checked, passes, fails, checked, check_answer}
 use Rattle.product.proofs.Answer.{apart}
-use Rattle.product.proofs.Check.{accepted-right, checked-is}
+use Rattle.product.proofs.Check.{accepted_right, checked_is}
 use Rattle.model.specs.declared.Model.{Model}
-use Rattle.model.specs.Model.{productOf}
-use Rattle.model.proofs.Valid.{product-in}
+use Rattle.model.specs.Model.{product_of}
+use Rattle.model.proofs.Valid.{product_in_lem}
 use Rattle.fitting.specs.Fits.{size_of, Fits}
-use Rattle.fitting.proofs.Tested.{tested-well, guarded-by}
+use Rattle.fitting.proofs.Tested.{tested_well, guarded_by}
 use Rattle.recheck.specs.declared.Recheck.{Recheck}
 use Rattle.recheck.specs.declared.Recheck.TheVariants.{Accepted, Invalid, Short, NoStart, Violating, Open}
 use Rattle.recheck.specs.Recheck.{meaning, in_table, recheck}
 
 -- a reason is never an acceptance
-answer-passes : (c : Checked) → answered accepted ≡ checkAnswer c → c ≡ passes
-answer-passes passes e = refl
-answer-passes (fails reason r v) e = let z : ◌≡◌ {A = ℕ} 0 1 = cc in absurd (omega arith)
+answer_passes : (c : Checked) → answered accepted ≡ check_answer c → c ≡ passes
+answer_passes passes e = refl
+answer_passes (fails reason r v) e = let z : ◌≡◌ {A = ℕ} 0 1 = cc in absurd (omega arith)
 
 never : (n : ℕ) (vs : List ℕ) → answered accepted ≡ refused n vs → ⊥
 never n vs e = let z : ◌≡◌ {A = ℕ} 0 1 = cc in omega arith
 
 module _ (m : Model) (hs ts : List ℕ) where
   -- where neither 6 nor 7 is given, the answer is that of the definitions
-  pub recheck-checked : Fits m (length hs) (length ts) → recheck m hs ts ≡ checkAnswer (checked (productOf m) (in_table (size_of m) hs ts))
+  pub recheck_checked : Fits m (length hs) (length ts) → recheck m hs ts ≡ check_answer (checked (product_of m) (in_table (size_of m) hs ts))
   unfolding recheck
-  recheck-checked f = tested-well m (length hs) (length ts) f _ _ _
+  recheck_checked f = tested_well m (length hs) (length ts) f _ _ _
 
   -- It accepts exactly if the record is valid, the arrays are long enough, and the table is accepted: the start head is present, no violating fact
   -- is, and every consequence of every step is.
-  pub accepted-exactly : (recheck m hs ts ≡ answered accepted) ↔ (Fits m (length hs) (length ts) × T (accepts (productOf m) (in_table (size_of m) hs ts)))
+  pub accepted_exactly : (recheck m hs ts ≡ answered accepted) ↔ (Fits m (length hs) (length ts) × T (accepts (product_of m) (in_table (size_of m) hs ts)))
   unfolding recheck
-  accepted-exactly = (
+  accepted_exactly = (
     λ e.
-        let (f, k) = guarded-by m (length hs) (length ts) (checkAnswer (checked (productOf m) (in_table (size_of m) hs ts))) (answered accepted) (sym e) (never 6 (0 ∷ [])) (never 7 (0 ∷ [])) in
-        (f, (checked-is (productOf m) (in_table (size_of m) hs ts)).0 (answer-passes (checked (productOf m) (in_table (size_of m) hs ts)) k)),
-    λ (f, a). recheck-checked f ∙ ap checkAnswer ((checked-is (productOf m) (in_table (size_of m) hs ts)).1 a),
+        let (f, k) = guarded_by m (length hs) (length ts) (check_answer (checked (product_of m) (in_table (size_of m) hs ts))) (answered accepted) (sym e) (never 6 (0 ∷ [])) (never 7 (0 ∷ [])) in
+        (f, (checked_is (product_of m) (in_table (size_of m) hs ts)).0 (answer_passes (checked (product_of m) (in_table (size_of m) hs ts)) k)),
+    λ (f, a). recheck_checked f ∙ ap check_answer ((checked_is (product_of m) (in_table (size_of m) hs ts)).1 a),
   )
 
   -- so an accepted table shows that no run from the start reaches a final state
-  pub accepted-safe : recheck m hs ts ≡ answered accepted → (ss : List Step) (c : State) → Reaches (productOf m) ss c → ⊥
-  accepted-safe e =
-      let (f, a) = accepted-exactly.0 e in
-      accepted-right (productOf m) (in_table (size_of m) hs ts) (product-in m f.valid-model) a
+  pub accepted_safe : recheck m hs ts ≡ answered accepted → (ss : List Step) (c : State) → Reaches (product_of m) ss c → ⊥
+  accepted_safe e =
+      let (f, a) = accepted_exactly.0 e in
+      accepted_right (product_of m) (in_table (size_of m) hs ts) (product_in_lem m f.valid_model) a
 
 -- the number and values of an answer leave no other
 abbrev meant : Answer Acceptance → Recheck
@@ -61,13 +61,13 @@ meant (refused n []) = Short
 meant (refused n (a ∷ [])) = cond (eqb n 6) Invalid Short
 meant (refused n (a ∷ b ∷ [])) = Short
 
-meant-meaning : (r : Recheck) → meant (meaning r) ≡ r
-meant-meaning Accepted = refl
-meant-meaning Invalid = refl
-meant-meaning Short = refl
-meant-meaning NoStart = refl
-meant-meaning Violating = refl
-meant-meaning (Open r v) = refl
+meant_meaning : (r : Recheck) → meant (meaning r) ≡ r
+meant_meaning Accepted = refl
+meant_meaning Invalid = refl
+meant_meaning Short = refl
+meant_meaning NoStart = refl
+meant_meaning Violating = refl
+meant_meaning (Open r v) = refl
 
-pub meaning-one : (r r' : Recheck) → meaning r ≡ meaning r' → r ≡ r'
-meaning-one = apart meant meant-meaning
+pub meaning_one : (r r' : Recheck) → meaning r ≡ meaning r' → r ≡ r'
+meaning_one = apart meant meant_meaning

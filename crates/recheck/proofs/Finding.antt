@@ -11,12 +11,12 @@ use Rattle.product.specs.Product.{Step}
 use Rattle.model.proofs.Counted.{passed, failed}
 use Rattle.recheck.specs.declared.Found.{Found}
 use Rattle.recheck.specs.declared.Found.TheVariants.{At, Nowhere}
-use Rattle.recheck.specs.Tests.{step, foundAs}
+use Rattle.recheck.specs.Tests.{step, found_as}
 
 -- two tests that agree on the list
-pub find-same : {A : Type 0} (p r : A → Bool) (xs : List A) → ((x : A) → x ∈ xs → p x ≡ r x) → find p xs ≡ find r xs
-find-same p r [] h = refl
-find-same p r (x ∷ xs) h = rw (h x (inl refl), find-same p r xs (λ y i. h y (inr i)))
+pub find_same : {A : Type 0} (p r : A → Bool) (xs : List A) → ((x : A) → x ∈ xs → p x ≡ r x) → find p xs ≡ find r xs
+find_same p r [] h = refl
+find_same p r (x ∷ xs) h = rw (h x (inl refl), find_same p r xs (λ y i. h y (inr i)))
 
 -- one element alone, of which a test was made
 module _ {A : Type 0} (k : A → Bool) (x : A) {b : Bool} (tested : b ≡ k x) where
@@ -27,14 +27,14 @@ module _ {A : Type 0} (k : A → Bool) (x : A) {b : Bool} (tested : b ≡ k x) w
   miss h = rw (passed tested h)
 
 -- what the code answered
-pub found_some : (o : Option Step) {f : Found} {r v : ℕ} → f ≡ foundAs o → f ≡ At r v → o ≡ some (step r v)
+pub found_some : (o : Option Step) {f : Found} {r v : ℕ} → f ≡ found_as o → f ≡ At r v → o ≡ some (step r v)
 found_some none e h = let z : ◌≡◌ {A = ℕ} 0 1 = cc in absurd (omega arith)
-found_some (some s) {r = r} {v = v} e h = let i : s.by-rule ≡ r = cc in let j : s.by_move ≡ v = cc in rw (← i, ← j)
+found_some (some s) {r = r} {v = v} e h = let i : s.by_rule ≡ r = cc in let j : s.by_move ≡ v = cc in rw (← i, ← j)
 
-pub found_none : (o : Option Step) {f : Found} → f ≡ foundAs o → f ≡ Nowhere → o ≡ none
+pub found_none : (o : Option Step) {f : Found} → f ≡ found_as o → f ≡ Nowhere → o ≡ none
 found_none none e h = refl
 found_none (some s) e h = let z : ◌≡◌ {A = ℕ} 0 1 = cc in absurd (omega arith)
 
 -- the search has come to its end
-pub nowhere : (p : Step → Bool) (f : ℕ → List Step) {i n : ℕ} → i ≤ n → n ≤ i → find p (over (up_to i) f) ≡ none → Nowhere ≡ foundAs (find p (over (up_to n) f))
+pub nowhere : (p : Step → Bool) (f : ℕ → List Step) {i n : ℕ} → i ≤ n → n ≤ i → find p (over (up_to i) f) ≡ none → Nowhere ≡ found_as (find p (over (up_to n) f))
 nowhere p f {i} {n} l k h = let e : i ≡ n = omega arith in rw (← e, h)

@@ -18,15 +18,15 @@ use Rattle.product.specs.Table.{absent}
 use Rattle.product.proofs.Lists.{and_left, and_right, both, same_truth}
 use Rattle.bits.specs.Bit.{bit}
 use Rattle.bits.specs.Matrix.{entry, mat, some}
-use Rattle.bits.proofs.Bit.{bit-zero, bit-or, bit_past, bit-shl, bit-shl-below}
-use Rattle.bits.proofs.Set.{bit-set}
+use Rattle.bits.proofs.Bit.{bit_zero, bit_or_lem, bit_past, bit_shl, bit_shl_below}
+use Rattle.bits.proofs.Set.{bit_set}
 use Rattle.bits.proofs.Some.{some_of, of_some}
-use Rattle.table.specs.Cells.{headCount, tripleCount, headCell, tripleCell, headIn, tripleIn}
+use Rattle.table.specs.Cells.{head_count, triple_count, head_cell, triple_cell, head_in, triple_in}
 use Rattle.recheck.specs.Rows.{present, InCells}
 
-or-false : (b : Bool) → b ≡ b || false
-or-false true = refl
-or-false false = refl
+or_false : (b : Bool) → b ≡ b || false
+or_false true = refl
+or_false false = refl
 
 or_assoc : (a b c : Bool) → (a || b) || c ≡ a || (b || c)
 or_assoc true b c = refl
@@ -34,34 +34,34 @@ or_assoc false b c = refl
 
 -- one cell
 module _ (m cell k : ℕ) where
-  pub cell-absent : cell ≡ absent → (i : ℕ) → bit m i ≡ bit m i || (not (eqb cell absent) && eqb k i)
-  cell-absent e i = rw (eq-eqb cell absent e) (or-false (bit m i))
+  pub cell_absent : cell ≡ absent → (i : ℕ) → bit m i ≡ bit m i || (not (eqb cell absent) && eqb k i)
+  cell_absent e i = rw (eq-eqb cell absent e) (or_false (bit m i))
 
-  pub cell-present : (cell ≡ absent → ⊥) → k < 64 → (i : ℕ) → bit (bit_or m ((1 * 2 ^ k) % 2 ^ 64)) i ≡ bit m i || (not (eqb cell absent) && eqb k i)
-  cell-present n l i = rw (ne_eqb cell absent n) (bit-set m 64 k i l)
+  pub cell_present : (cell ≡ absent → ⊥) → k < 64 → (i : ℕ) → bit (bit_or m ((1 * 2 ^ k) % 2 ^ 64)) i ≡ bit m i || (not (eqb cell absent) && eqb k i)
+  cell_present n l i = rw (ne_eqb cell absent n) (bit_set m 64 k i l)
 
 -- a row
 module _ (m : ℕ) (cells : List ℕ) (at apart k : ℕ) where
   abbrev pub Rowed : (n r : ℕ) → Type 0
   Rowed n r = (i : ℕ) → bit r i ≡ bit m i || present cells at apart k n i
 
-  pub rowed-none : Rowed 0 m
+  pub rowed_none : Rowed 0 m
   unfolding present
-  rowed-none i = or-false (bit m i)
+  rowed_none i = or_false (bit m i)
 
-  pub rowed-more : (e r r' : ℕ) → Rowed e r → ((i : ℕ) → bit r' i ≡ bit r i || (not (eqb (get_or cells (at + e * apart) 0) absent) && eqb (k + e) i)) → Rowed (e + 1) r'
+  pub rowed_more : (e r r' : ℕ) → Rowed e r → ((i : ℕ) → bit r' i ≡ bit r i || (not (eqb (get_or cells (at + e * apart) 0) absent) && eqb (k + e) i)) → Rowed (e + 1) r'
   unfolding present
-  rowed-more e r r' a b i =
+  rowed_more e r r' a b i =
       rw add-one (b i ∙ ap (λ z. z || (not (eqb (get_or cells (at + e * apart) 0) absent) && eqb (k + e) i)) (a i)
       ∙ or_assoc (bit m i) (some e (λ e. not (eqb (get_or cells (at + e * apart) 0) absent) && eqb (k + e) i)) (not (eqb (get_or cells (at + e * apart) 0) absent) && eqb (k + e) i))
 
-  pub rowed-all : (n e r : ℕ) → e ≡ n → Rowed e r → Rowed n r
-  rowed-all n e r y = subst (λ e. Rowed e r) y
+  pub rowed_all : (n e r : ℕ) → e ≡ n → Rowed e r → Rowed n r
+  rowed_all n e r y = subst (λ e. Rowed e r) y
 
 -- a row that begins at bit 0: in an empty word, and then moved up by k
 module _ (cells : List ℕ) (at apart n : ℕ) where
-  pub rowed-alone : (r : ℕ) → Rowed 0 cells at apart 0 n r → (i : ℕ) → bit r i ≡ present cells at apart 0 n i
-  rowed-alone r h i = h i ∙ ap (λ b. b || present cells at apart 0 n i) (bit-zero i)
+  pub rowed_alone : (r : ℕ) → Rowed 0 cells at apart 0 n r → (i : ℕ) → bit r i ≡ present cells at apart 0 n i
+  rowed_alone r h i = h i ∙ ap (λ b. b || present cells at apart 0 n i) (bit_zero i)
 
   abbrev there : ℕ → Bool
   there e = not (eqb (get_or cells (at + e * apart) 0) absent)
@@ -87,43 +87,43 @@ module _ (cells : List ℕ) (at apart n : ℕ) where
   row_moved k r few h i = go (dec_lt i k) (dec_lt i 64)
     where
       go : Dec (i < k) → Dec (i < 64) → bit ((r * 2 ^ k) % 2 ^ 64) i ≡ present cells at apart k n i
-      go (yes l) d = bit-shl-below r 64 k i (omega arith) l ∙ outside k i (λ e j y. omega arith)
+      go (yes l) d = bit_shl_below r 64 k i (omega arith) l ∙ outside k i (λ e j y. omega arith)
       go (no l) (yes d) =
           let y : i - k + k ≡ i = omega arith in
           subst (λ i. bit ((r * 2 ^ k) % 2 ^ 64) i ≡ present cells at apart k n i) y
-          (bit-shl r 64 k (i - k) (omega arith) ∙ h (i - k) ∙ within k (i - k))
+          (bit_shl r 64 k (i - k) (omega arith) ∙ h (i - k) ∙ within k (i - k))
       go (no l) (no d) = bit_past ((r * 2 ^ k) % 2 ^ 64) 64 i (mod-lt (r * 2 ^ k) (pow_pos 64)) (omega arith) ∙ outside k i (λ e j y. omega arith)
 
-  pub rowed-moved : (m k r : ℕ) → k + n ≤ 64 → ((i : ℕ) → bit r i ≡ present cells at apart 0 n i) → Rowed m cells at apart k n (bit_or m ((r * 2 ^ k) % 2 ^ 64))
-  rowed-moved m k r few h i = bit-or m ((r * 2 ^ k) % 2 ^ 64) i ∙ ap (λ b. bit m i || b) (row_moved k r few h i)
+  pub rowed_moved : (m k r : ℕ) → k + n ≤ 64 → ((i : ℕ) → bit r i ≡ present cells at apart 0 n i) → Rowed m cells at apart k n (bit_or m ((r * 2 ^ k) % 2 ^ 64))
+  rowed_moved m k r few h i = bit_or_lem m ((r * 2 ^ k) % 2 ^ 64) i ∙ ap (λ b. bit m i || b) (row_moved k r few h i)
 
 -- a fact that is present is in range
-pub triple-in : (G Q : ℕ) (ts : List ℕ) (q g e : ℕ) → T (not (eqb (tripleIn G Q ts q g e) absent)) → (q < Q) × (e < Q)
-triple-in G Q ts q g e t = go (ltb q Q) (ltb g G) (ltb e Q) refl refl t
+pub triple_in_lem : (G Q : ℕ) (ts : List ℕ) (q g e : ℕ) → T (not (eqb (triple_in G Q ts q g e) absent)) → (q < Q) × (e < Q)
+triple_in_lem G Q ts q g e t = go (ltb q Q) (ltb g G) (ltb e Q) refl refl t
   where
-    go : (a b c : Bool) → ltb q Q ≡ a → ltb e Q ≡ c → T (not (eqb (cond (a && b && c) (get_or ts (tripleCell G Q q g e) 0) absent) absent)) → (q < Q) × (e < Q)
+    go : (a b c : Bool) → ltb q Q ≡ a → ltb e Q ≡ c → T (not (eqb (cond (a && b && c) (get_or ts (triple_cell G Q q g e) 0) absent) absent)) → (q < Q) × (e < Q)
     go true true true x y t = (ltb→lt q Q (rw x tt), ltb→lt e Q (rw y tt))
 
-head_in : (G Q : ℕ) (hs : List ℕ) (q g : ℕ) → T (not (eqb (headIn G Q hs q g) absent)) → q < Q
-head_in G Q hs q g t = go (ltb q Q) (ltb g G) refl t
+head_in_lem : (G Q : ℕ) (hs : List ℕ) (q g : ℕ) → T (not (eqb (head_in G Q hs q g) absent)) → q < Q
+head_in_lem G Q hs q g t = go (ltb q Q) (ltb g G) refl t
   where
-    go : (a b : Bool) → ltb q Q ≡ a → T (not (eqb (cond (a && b) (get_or hs (headCell G q g) 0) absent) absent)) → q < Q
+    go : (a b : Bool) → ltb q Q ≡ a → T (not (eqb (cond (a && b) (get_or hs (head_cell G q g) 0) absent) absent)) → q < Q
     go true true x t = ltb→lt q Q (rw x tt)
 
 -- where the cells of a table lie: a row of triples, and all heads of a symbol
 module _ (G Q : ℕ) (few : Q ≤ 8) (g : ℕ) (l : g < G) where
-  pub triples-inside : (cells : ℕ) → tripleCount G Q ≤ cells → (q : ℕ) → q < Q → InCells cells ((q * G + g) * Q) 1 (q * 8) Q
-  triples-inside cells long q i = record {
+  pub triples_inside : (cells : ℕ) → triple_count G Q ≤ cells → (q : ℕ) → q < Q → InCells cells ((q * G + g) * Q) 1 (q * 8) Q
+  triples_inside cells long q i = record {
     inside = λ e k. omega (arith, mul-one e, digits_lt {q = q * G + g} {m = Q * G} {r = e} {c = Q} (digits_lt i l) k);
     few = omega arith;
   }
 
-  pub heads-inside : (cells : ℕ) → headCount G Q ≤ cells → InCells cells g G 0 Q
-  heads-inside cells long = record { inside = λ q i. omega (arith, digits_lt {q = q} {m = Q} {r = g} {c = G} i l); few = omega arith }
+  pub heads_inside : (cells : ℕ) → head_count G Q ≤ cells → InCells cells g G 0 Q
+  heads_inside cells long = record { inside = λ q i. omega (arith, digits_lt {q = q} {m = Q} {r = g} {c = G} i l); few = omega arith }
 
 -- the number of a row's first cell does not wrap
-pub small-place : (G Q q g : ℕ) → G < 256 → Q ≤ 8 → q < Q → g < G → (q * G ≤ 8 * 255) × ((q * G + g) * Q ≤ (8 * 255 + 255) * 8)
-small-place G Q q g i j k l =
+pub small_place : (G Q q g : ℕ) → G < 256 → Q ≤ 8 → q < Q → g < G → (q * G ≤ 8 * 255) × ((q * G + g) * Q ≤ (8 * 255 + 255) * 8)
+small_place G Q q g i j k l =
     let a : q ≤ 8 = omega arith in
     let b : G ≤ 255 = omega arith in
     let d : q * G ≤ 8 * 255 = le_trans (mul-le-mul_right G a) (mul-le-mul_left 8 b) in
@@ -135,11 +135,11 @@ module _ (G Q : ℕ) (ts : List ℕ) (g : ℕ) where
   abbrev pub Matrixed : (n m : ℕ) → Type 0
   Matrixed n m = (i : ℕ) → bit m i ≡ some n (λ q. present ts ((q * G + g) * Q) 1 (q * 8) Q i)
 
-  pub matrixed-none : Matrixed 0 0
-  matrixed-none i = bit-zero i
+  pub matrixed_none : Matrixed 0 0
+  matrixed_none i = bit_zero i
 
-  pub matrixed-more : (q m m' : ℕ) → Matrixed q m → Rowed m ts ((q * G + g) * Q) 1 (q * 8) Q m' → Matrixed (q + 1) m'
-  matrixed-more q m m' a b i = rw add-one (b i ∙ ap (λ z. z || present ts ((q * G + g) * Q) 1 (q * 8) Q i) (a i))
+  pub matrixed_more : (q m m' : ℕ) → Matrixed q m → Rowed m ts ((q * G + g) * Q) 1 (q * 8) Q m' → Matrixed (q + 1) m'
+  matrixed_more q m m' a b i = rw add-one (b i ∙ ap (λ z. z || present ts ((q * G + g) * Q) 1 (q * 8) Q i) (a i))
 
   abbrev cell : (q e : ℕ) → Bool
   cell q e = not (eqb (get_or ts ((q * G + g) * Q + e * 1) 0) absent)
@@ -149,16 +149,16 @@ module _ (G Q : ℕ) (ts : List ℕ) (g : ℕ) where
 
   -- its matrix has the triples that are present
   abbrev pub Triples : (m : ℕ) → Type 0
-  Triples m = (q e : ℕ) → mat m q e ≡ not (eqb (tripleIn G Q ts q g e) absent)
+  Triples m = (q e : ℕ) → mat m q e ≡ not (eqb (triple_in G Q ts q g e) absent)
 
-  cell-is : g < G → (q e : ℕ) → q < Q → e < Q → not (eqb (tripleIn G Q ts q g e) absent) ≡ cell q e
-  cell-is l q e i j = rw (lt-ltb q Q i, lt-ltb g G l, lt-ltb e Q j, mul-one e)
+  cell_is : g < G → (q e : ℕ) → q < Q → e < Q → not (eqb (triple_in G Q ts q g e) absent) ≡ cell q e
+  cell_is l q e i j = rw (lt-ltb q Q i, lt-ltb g G l, lt-ltb e Q j, mul-one e)
 
-  pub triples-are : Q ≤ 8 → g < G → (n m : ℕ) → n ≡ Q → Matrixed n m → Triples m
+  pub triples_are : Q ≤ 8 → g < G → (n m : ℕ) → n ≡ Q → Matrixed n m → Triples m
   unfolding present
-  triples-are few l n m n-is h q e = same_truth (mat m q e) (not (eqb (tripleIn G Q ts q g e) absent)) to from
+  triples_are few l n m n-is h q e = same_truth (mat m q e) (not (eqb (triple_in G Q ts q g e) absent)) to from
     where
-      to : T (mat m q e) → T (not (eqb (tripleIn G Q ts q g e) absent))
+      to : T (mat m q e) → T (not (eqb (triple_in G Q ts q g e) absent))
       to t =
           let j : e < 8 = ltb→lt e 8 (and_right (ltb q 8) (ltb e 8) (and_left (ltb q 8 && ltb e 8) (entry m q e) t)) in
           let u : T (some Q (row (q * 8 + e))) = subst (λ n. T (some n (row (q * 8 + e)))) n-is (subst T (h (q * 8 + e)) (and_right (ltb q 8 && ltb e 8) (entry m q e) t)) in
@@ -168,23 +168,23 @@ module _ (G Q : ℕ) (ts : List ℕ) (g : ℕ) where
           let k : e₁ < 8 = omega arith in
           let x : q₁ ≡ q = sym (digits_div q₁ k) ∙ ap (λ n. n / 8) y ∙ digits_div q j in
           let z : e₁ ≡ e = sym (digits_mod q₁ k) ∙ ap (λ n. n % 8) y ∙ digits_mod q j in
-          subst (λ e. T (not (eqb (tripleIn G Q ts q g e) absent))) z
-          (subst (λ q. T (not (eqb (tripleIn G Q ts q g e₁) absent))) x
-          (subst⁻¹ T (cell-is l q₁ e₁ a b) (and_left (cell q₁ e₁) (eqb (q₁ * 8 + e₁) (q * 8 + e)) w)))
+          subst (λ e. T (not (eqb (triple_in G Q ts q g e) absent))) z
+          (subst (λ q. T (not (eqb (triple_in G Q ts q g e₁) absent))) x
+          (subst⁻¹ T (cell_is l q₁ e₁ a b) (and_left (cell q₁ e₁) (eqb (q₁ * 8 + e₁) (q * 8 + e)) w)))
 
-      from : T (not (eqb (tripleIn G Q ts q g e) absent)) → T (mat m q e)
+      from : T (not (eqb (triple_in G Q ts q g e) absent)) → T (mat m q e)
       from t =
-          let (i, j) = triple-in G Q ts q g e t in
+          let (i, j) = triple_in_lem G Q ts q g e t in
           both (ltb q 8 && ltb e 8) (entry m q e) (both (ltb q 8) (ltb e 8) (lt→ltb q 8 (omega arith)) (lt→ltb e 8 (omega arith)))
           (subst⁻¹ T (h (q * 8 + e)) (subst⁻¹ (λ n. T (some n (row (q * 8 + e)))) n-is
           (some_of Q (row (q * 8 + e)) q i
           (some_of Q (λ e₁. cell q e₁ && eqb (q * 8 + e₁) (q * 8 + e)) e j
-          (both (cell q e) (eqb (q * 8 + e) (q * 8 + e)) (subst T (cell-is l q e i j) t) (eqb_refl (q * 8 + e)))))))
+          (both (cell q e) (eqb (q * 8 + e) (q * 8 + e)) (subst T (cell_is l q e i j) t) (eqb_refl (q * 8 + e)))))))
 
 -- and its heads are one row
 module _ (G Q : ℕ) (hs : List ℕ) (g : ℕ) where
   abbrev pub Heads : (m : ℕ) → Type 0
-  Heads m = (q : ℕ) → mat m 0 q ≡ not (eqb (headIn G Q hs q g) absent)
+  Heads m = (q : ℕ) → mat m 0 q ≡ not (eqb (head_in G Q hs q g) absent)
 
   abbrev top : ℕ → Bool
   top q = not (eqb (get_or hs (g + q * G) 0) absent)
@@ -192,30 +192,30 @@ module _ (G Q : ℕ) (hs : List ℕ) (g : ℕ) where
   abbrev tops : ℕ → Bool
   tops i = some Q (λ q. top q && eqb (0 + q) i)
 
-  top-is : g < G → (q : ℕ) → q < Q → not (eqb (headIn G Q hs q g) absent) ≡ top q
-  top-is l q i = rw (lt-ltb q Q i, lt-ltb g G l, add_comm (q * G) g)
+  top_is : g < G → (q : ℕ) → q < Q → not (eqb (head_in G Q hs q g) absent) ≡ top q
+  top_is l q i = rw (lt-ltb q Q i, lt-ltb g G l, add_comm (q * G) g)
 
-  pub heads-are : Q ≤ 8 → g < G → (m : ℕ) → Rowed 0 hs g G 0 Q m → Heads m
+  pub heads_are : Q ≤ 8 → g < G → (m : ℕ) → Rowed 0 hs g G 0 Q m → Heads m
   unfolding present
-  heads-are few l m h q = same_truth (mat m 0 q) (not (eqb (headIn G Q hs q g) absent)) to from
+  heads_are few l m h q = same_truth (mat m 0 q) (not (eqb (head_in G Q hs q g) absent)) to from
     where
       bits : bit m (0 * 8 + q) ≡ tops (0 * 8 + q)
-      bits = rowed-alone hs g G Q m h (0 * 8 + q)
+      bits = rowed_alone hs g G Q m h (0 * 8 + q)
 
-      to : T (mat m 0 q) → T (not (eqb (headIn G Q hs q g) absent))
+      to : T (mat m 0 q) → T (not (eqb (head_in G Q hs q g) absent))
       to t =
           let (e, a, v) = of_some Q (λ e. top e && eqb (0 + e) (0 * 8 + q)) (subst T bits (and_right (ltb 0 8 && ltb q 8) (entry m 0 q) t)) in
           let y : 0 + e ≡ 0 * 8 + q = eqb→eq (0 + e) (0 * 8 + q) (and_right (top e) (eqb (0 + e) (0 * 8 + q)) v) in
           let z : e ≡ q = omega arith in
-          subst (λ q. T (not (eqb (headIn G Q hs q g) absent))) z (subst⁻¹ T (top-is l e a) (and_left (top e) (eqb (0 + e) (0 * 8 + q)) v))
+          subst (λ q. T (not (eqb (head_in G Q hs q g) absent))) z (subst⁻¹ T (top_is l e a) (and_left (top e) (eqb (0 + e) (0 * 8 + q)) v))
 
-      from : T (not (eqb (headIn G Q hs q g) absent)) → T (mat m 0 q)
+      from : T (not (eqb (head_in G Q hs q g) absent)) → T (mat m 0 q)
       from t =
-          let i = head_in G Q hs q g t in
+          let i = head_in_lem G Q hs q g t in
           both (ltb 0 8 && ltb q 8) (entry m 0 q) (lt→ltb q 8 (omega arith))
           (subst⁻¹ T bits
           (some_of Q (λ e. top e && eqb (0 + e) (0 * 8 + q)) q i
-          (both (top q) (eqb (0 + q) (0 * 8 + q)) (subst T (top-is l q i) t) (rw (eq-eqb (0 + q) (0 * 8 + q) (omega arith)) tt))))
+          (both (top q) (eqb (0 + q) (0 * 8 + q)) (subst T (top_is l q i) t) (rw (eq-eqb (0 + q) (0 * 8 + q) (omega arith)) tt))))
 
 -- one number more is stored
 module _ (P : (c m : ℕ) → Type 0) where

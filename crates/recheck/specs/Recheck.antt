@@ -2,11 +2,11 @@
 use Rattle.std.specs.Prelude.{Bool, List, [], ◌∷◌, ℕ, ◌≡◌, length}
 use Rattle.product.specs.Answer.{Answer, answered, refused, Acceptance, accepted}
 use Rattle.product.specs.Facts.{Fact}
-use Rattle.product.specs.Check.{checked, checkAnswer}
+use Rattle.product.specs.Check.{checked, check_answer}
 use Rattle.table.specs.declared.Size.{Size}
 use Rattle.kept.specs.Kept as kept
 use Rattle.model.specs.declared.Model.{Model}
-use Rattle.model.specs.Model.{productOf}
+use Rattle.model.specs.Model.{product_of}
 use Rattle.fitting.specs.Fits.{size_of, guarded, Fits}
 use Rattle.recheck.specs.declared.Recheck.{Recheck}
 use Rattle.recheck.specs.declared.Recheck.TheVariants.{Accepted, Invalid, Short, NoStart, Violating, Open}
@@ -26,7 +26,7 @@ in_table = kept.in_table
 
 -- 6, then 7, then the first reason of 11 that applies
 unfoldable pub recheck : Model → (heads triples : List ℕ) → Answer Acceptance
-recheck m hs ts = guarded m (length hs) (length ts) (checkAnswer (checked (productOf m) (in_table (size_of m) hs ts)))
+recheck m hs ts = guarded m (length hs) (length ts) (check_answer (checked (product_of m) (in_table (size_of m) hs ts)))
 
 -- what the search for a step asks: a valid model, its size, and arrays that hold its table
 pub record Sized (m : Model) (z : Size) (hs ts : List ℕ) : Type 0 where

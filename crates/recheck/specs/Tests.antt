@@ -5,41 +5,41 @@ use Rattle.product.specs.Lists.{up_to, over, each, all, find}
 use Rattle.product.specs.Product.{Step, Product}
 use Rattle.product.specs.Facts.{Fact}
 use Rattle.model.specs.declared.Model.{Model}
-use Rattle.model.specs.Model.{rule, productOf}
+use Rattle.model.specs.Model.{rule, product_of}
 use Rattle.steps.specs.Steps.{class_of}
-use Rattle.kept.specs.Kept.{nextKept}
-use Rattle.closed.specs.Closed.{ruleClosed}
+use Rattle.kept.specs.Kept.{next_kept}
+use Rattle.closed.specs.Closed.{rule_closed}
 use Rattle.recheck.specs.declared.Found.{Found}
 use Rattle.recheck.specs.declared.Found.TheVariants.{At, Nowhere}
 
 abbrev pub step : (r v : ℕ) → Step
-step r v = record { by-rule = r; by_move = v }
+step r v = record { by_rule = r; by_move = v }
 
 -- of rule r and move v, from the state q; and from every state
-abbrev pub stepKept : Product → (states : ℕ) → (Fact → Bool) → (r v q : ℕ) → Bool
-stepKept p states t r v q = nextKept states t q (p.rule r) (p.next (step r v) q)
+abbrev pub step_kept : Product → (states : ℕ) → (Fact → Bool) → (r v q : ℕ) → Bool
+step_kept p states t r v q = next_kept states t q (p.rule r) (p.next (step r v) q)
 
-abbrev pub stepsKept : Product → (states : ℕ) → (Fact → Bool) → (r v : ℕ) → Bool
-stepsKept p states t r v = all (stepKept p states t r v) (up_to states)
+abbrev pub steps_kept : Product → (states : ℕ) → (Fact → Bool) → (r v : ℕ) → Bool
+steps_kept p states t r v = all (step_kept p states t r v) (up_to states)
 
 -- the first of some steps that is not closed
-abbrev pub isClosed : Product → (states : ℕ) → (Fact → Bool) → Step → Bool
-isClosed p states t s = stepsKept p states t s.by-rule s.by_move
+abbrev pub is_closed : Product → (states : ℕ) → (Fact → Bool) → Step → Bool
+is_closed p states t s = steps_kept p states t s.by_rule s.by_move
 
-abbrev pub isOpen : Product → (states : ℕ) → (Fact → Bool) → Step → Bool
-isOpen p states t s = not (isClosed p states t s)
+abbrev pub is_open : Product → (states : ℕ) → (Fact → Bool) → Step → Bool
+is_open p states t s = not (is_closed p states t s)
 
-abbrev pub foundAs : Option Step → Found
-foundAs none = Nowhere
-foundAs (some s) = At s.by-rule s.by_move
+abbrev pub found_as : Option Step → Found
+found_as none = Nowhere
+found_as (some s) = At s.by_rule s.by_move
 
 -- the first step of a model's rules and moves that is not closed, rule by rule and move by move
-abbrev pub openingOf : Model → (Fact → Bool) → Option Step
-openingOf m t = find (isOpen (productOf m) m.states t) (over (up_to m.rules) (λ r. each (up_to m.moves) (step r)))
+abbrev pub opening_of : Model → (Fact → Bool) → Option Step
+opening_of m t = find (is_open (product_of m) m.states t) (over (up_to m.rules) (λ r. each (up_to m.moves) (step r)))
 
 -- rule r is closed by matrices: tg has the steps of each class, ts and hs the triples and the heads of each symbol
-unfoldable pub closedBy : Model → (tg ts hs : List ℕ) → (r : ℕ) → Bool
-closedBy m tg ts hs r = ruleClosed ts hs (get_or tg (class_of m r) 0) (rule m r)
+unfoldable pub closed_by : Model → (tg ts hs : List ℕ) → (r : ℕ) → Bool
+closed_by m tg ts hs r = rule_closed ts hs (get_or tg (class_of m r) 0) (rule m r)
 
 -- k is the first of n numbers that does not pass, or n where all do
 pub record FirstOpen (p : ℕ → Bool) (n k : ℕ) : Type 0 where

@@ -4,7 +4,7 @@ ghost use Rattle.product.specs.Facts.{head, triple};
 ghost use Rattle.product.specs.Table.{absent};
 ghost use Rattle.bits.specs.Bit.{bit};
 ghost use Rattle.bits.specs.Matrix.{mat, mats};
-ghost use Rattle.table.specs.Cells.{headCount, tripleCount};
+ghost use Rattle.table.specs.Cells.{head_count, triple_count};
 ghost use Rattle.kept.specs.Kept.{in_table};
 ghost use Rattle.recheck.specs.Rows.{InCells, present};
 
@@ -53,7 +53,7 @@ fn row_of_eight(cells: &[u16], at: usize) -> u64
 fn triples_of_eight(triples: &[u16], size: Size, g: usize) -> u64
     requires g_lt_symbols { g < size.symbols }
     requires states_value { size.states ≡ 8 }
-    requires states_in_bounds { tripleCount size.symbols size.states ≤ length triples.now }
+    requires states_in_bounds { triple_count size.symbols size.states ≤ length triples.now }
     ensures { (q e : ℕ) → mat result q e ≡ in_table size [] triples.now (triple q g e) }
 {
     let symbols = size.symbols as usize;
@@ -71,7 +71,7 @@ fn triples_of_eight(triples: &[u16], size: Size, g: usize) -> u64
 fn triples_of(triples: &[u16], size: Size, g: usize) -> u64
     requires g_lt_symbols { g < size.symbols }
     requires states_bound { size.states ≤ 8 }
-    requires states_in_bounds { tripleCount size.symbols size.states ≤ length triples.now }
+    requires states_in_bounds { triple_count size.symbols size.states ≤ length triples.now }
     ensures { (q e : ℕ) → mat result q e ≡ in_table size [] triples.now (triple q g e) }
 {
     if size.states == 8 {
@@ -91,7 +91,7 @@ fn triples_of(triples: &[u16], size: Size, g: usize) -> u64
 pub(crate) fn all_triples(triples: &[u16], size: Size) -> [u64; 32]
     requires symbols_bound { size.symbols ≤ 32 }
     requires states_bound { size.states ≤ 8 }
-    requires states_in_bounds { tripleCount size.symbols size.states ≤ length triples.now }
+    requires states_in_bounds { triple_count size.symbols size.states ≤ length triples.now }
     ensures { (g : ℕ) → g < size.symbols → (q e : ℕ) → mats result g q e ≡ in_table size [] triples.now (triple q g e) }
 {
     let symbols = size.symbols as usize;
@@ -107,7 +107,7 @@ pub(crate) fn all_triples(triples: &[u16], size: Size) -> [u64; 32]
 pub(crate) fn all_heads(heads: &[u16], size: Size) -> [u64; 32]
     requires symbols_bound { size.symbols ≤ 32 }
     requires states_bound { size.states ≤ 8 }
-    requires states_in_bounds { headCount size.symbols size.states ≤ length heads.now }
+    requires states_in_bounds { head_count size.symbols size.states ≤ length heads.now }
     ensures { (g : ℕ) → g < size.symbols → (q : ℕ) → mats result g 0 q ≡ in_table size heads.now [] (head q g) }
 {
     let states = size.states as usize;

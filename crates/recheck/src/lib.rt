@@ -1,6 +1,6 @@
 // The table check: whether the facts in two lent arrays show that no run violates. It knows the model and the definitions, and no decision.
 ghost use Rattle.std.specs.Prelude.{◌≡◌};
-ghost use Rattle.lent.specs.Lending.{modelIn};
+ghost use Rattle.lent.specs.Lending.{model_in};
 ghost use Rattle.recheck.specs.Recheck.{meaning, recheck};
 
 use crate::search::open_step;
@@ -30,7 +30,7 @@ mod search; // the first rule and move that are not closed
 
 // Accepts exactly if the start head is present, no violating fact is, and every consequence of every step is; else the first reason.
 pub fn check_table<'a>(m: &'a Lent, heads: &'a [u16], triples: &'a [u16]) -> Recheck
-    ensures { meaning result ≡ recheck (modelIn m.now) heads.now triples.now }
+    ensures { meaning result ≡ recheck (model_in m.now) heads.now triples.now }
 {
     let fit = fitting::measure(m, heads.len(), triples.len());
     if fit.refusal == 6 {

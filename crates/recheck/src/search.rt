@@ -1,10 +1,10 @@
 // The first rule, and then the first move, that are not closed: a consequence of one of their steps is not present.
 ghost use Rattle.std.specs.Prelude.{◌≡◌};
 ghost use Rattle.product.specs.Lists.{up_to, each, find};
-ghost use Rattle.lent.specs.Lending.{modelIn, productIn};
+ghost use Rattle.lent.specs.Lending.{model_in, product_in};
 ghost use Rattle.kept.specs.Kept.{in_table};
 ghost use Rattle.recheck.specs.Recheck.{Sized};
-ghost use Rattle.recheck.specs.Tests.{stepsKept, step, isOpen, closedBy, FirstOpen, openingOf, foundAs};
+ghost use Rattle.recheck.specs.Tests.{steps_kept, step, is_open, closed_by, FirstOpen, opening_of, found_as};
 
 use crate::Found;
 use crate::facts::{all_heads, all_triples};
@@ -20,7 +20,7 @@ fn steps_kept<'a>(
     r: usize,
     v: usize,
 ) -> bool
-    ensures { result ≡ stepsKept (productIn m.now) size.states (in_table size heads.now triples.now) r v }
+    ensures { result ≡ steps_kept (product_in m.now) size.states (in_table size heads.now triples.now) r v }
 {
     let rule = lent::rule_at(m, r);
     let mut q: usize = 0;
@@ -43,7 +43,7 @@ fn open_move<'a>(
     moves: usize,
     r: usize,
 ) -> Found
-    ensures { result ≡ foundAs (find (isOpen (productIn m.now) size.states (in_table size heads.now triples.now)) (each (up_to moves) (step r))) }
+    ensures { result ≡ found_as (find (is_open (product_in m.now) size.states (in_table size heads.now triples.now)) (each (up_to moves) (step r))) }
 {
     let mut v: usize = 0;
     while v < moves {
@@ -63,7 +63,7 @@ fn open_rule<'a>(
     hs: &'a [u64; 32],
     rules: usize,
 ) -> usize
-    ensures { FirstOpen (closedBy (modelIn m.now) tg.now ts.now hs.now) rules result }
+    ensures { FirstOpen (closed_by (model_in m.now) tg.now ts.now hs.now) rules result }
 {
     let mut r: usize = 0;
     while r < rules {
@@ -78,8 +78,8 @@ fn open_rule<'a>(
 
 // The first rule, and its first move, that are not closed. Rule by rule matrices decide; only for a rule that is not closed are its moves tried.
 pub(crate) fn open_step<'a>(m: &'a Lent, heads: &'a [u16], triples: &'a [u16], size: Size) -> Found
-    requires { Sized (modelIn m.now) size heads.now triples.now }
-    ensures { result ≡ foundAs (openingOf (modelIn m.now) (in_table size heads.now triples.now)) }
+    requires { Sized (model_in m.now) size heads.now triples.now }
+    ensures { result ≡ found_as (opening_of (model_in m.now) (in_table size heads.now triples.now)) }
 {
     let s = lent::shape(m);
     let tg = steps::class_steps(m);

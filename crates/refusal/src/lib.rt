@@ -2,7 +2,7 @@
 ghost use Rattle.std.specs.Prelude.{◌≡◌, [], ℕ, ◌<◌};
 ghost use Rattle.text.specs.Put.{Put};
 ghost use Rattle.reader.specs.Reading.{meaning, empty};
-ghost use Rattle.refusal.specs.Refusal.{refusedBytes, isAnswered, lineIn, refusalBytes, Seeing};
+ghost use Rattle.refusal.specs.Refusal.{refused_bytes, is_answered, line_in, refusal_bytes, Seeing};
 
 use lent::Lent;
 use reader::Reading;
@@ -16,7 +16,7 @@ pub struct Seen {
 
 // Puts the line of a refusal.
 pub fn put_refused(out: &mut [u8], number: u16, line: u16) -> usize
-    ensures { Put out.old out.new 0 result (refusedBytes number line) }
+    ensures { Put out.old out.new 0 result (refused_bytes number line) }
 {
     let row = [number, line];
     print::put_line(out, 0, b"refused", &row)
@@ -24,8 +24,8 @@ pub fn put_refused(out: &mut [u8], number: u16, line: u16) -> usize
 
 // Puts the line of a refused reading, and nothing for one that is accepted.
 fn put_reading(out: &mut [u8], reading: Reading) -> usize
-    requires { lineIn (meaning reading empty) < 65536 }
-    ensures { Put out.old out.new 0 result (refusalBytes (meaning reading empty)) }
+    requires { line_in (meaning reading empty) < 65536 }
+    ensures { Put out.old out.new 0 result (refusal_bytes (meaning reading empty)) }
 {
     match reading {
         Reading::Accepted => 0,
@@ -38,7 +38,7 @@ fn put_reading(out: &mut [u8], reading: Reading) -> usize
 }
 
 fn is_accepted(reading: Reading) -> bool
-    ensures { result ≡ isAnswered (meaning reading empty) }
+    ensures { result ≡ is_answered (meaning reading empty) }
 {
     match reading {
         Reading::Accepted => true,

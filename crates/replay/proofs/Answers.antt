@@ -8,24 +8,24 @@ use borrow.Author.Tests.{lt-ltb, le-ltb, not-true, not-false}
 use Rattle.product.specs.Lists.{each}
 use Rattle.product.specs.Product.{loaded}
 use Rattle.product.specs.Replay as product
-use Rattle.product.specs.Replay.{replays, stops, replay, replayAnswer}
+use Rattle.product.specs.Replay.{replays, stops, replay, replay_answer}
 use Rattle.model.specs.declared.Model.{Model}
-use Rattle.model.specs.Model.{productOf}
+use Rattle.model.specs.Model.{product_of}
 use Rattle.model.specs.Valid.{valid}
-use Rattle.model.proofs.Bounds.{is-valid}
+use Rattle.model.proofs.Bounds.{is_valid}
 use Rattle.replay.specs.declared.Replayed.{Replayed}
 use Rattle.replay.specs.declared.Replayed.TheVariants.{Invalid, Short}
-use Rattle.replay.specs.Replay.{meaning, replayedAs, left, Replays}
+use Rattle.replay.specs.Replay.{meaning, replayed_as, left, Replays}
 use Rattle.replay.specs.Machine.{Runs, Ran}
 
 -- after any run the cells are cleared
-left-replayed : (x : product.Replayed) (n : ℕ) (cells : List ℕ) → left (replayedAs x) n cells ≡ replicate n 0 ++ drop n cells
-left-replayed replays n cells = refl
-left-replayed (stops k) n cells = refl
+left_replayed : (x : product.Replayed) (n : ℕ) (cells : List ℕ) → left (replayed_as x) n cells ≡ replicate n 0 ++ drop n cells
+left_replayed replays n cells = refl
+left_replayed (stops k) n cells = refl
 
-means-replayed : (x : product.Replayed) → meaning (replayedAs x) ≡ replayAnswer x
-means-replayed replays = refl
-means-replayed (stops k) = refl
+means_replayed : (x : product.Replayed) → meaning (replayed_as x) ≡ replay_answer x
+means_replayed replays = refl
+means_replayed (stops k) = refl
 
 -- b is what the test of the record gave
 module _ (m : Model) (steps cells : List ℕ) {b : Bool} (tested : b ≡ valid m) where
@@ -36,13 +36,13 @@ module _ (m : Model) (steps cells : List ℕ) {b : Bool} (tested : b ≡ valid m
   short y l = record { answer = rw (sym tested ∙ not-false b y, le-ltb (length steps) (length cells) l); cells = refl }
 
   pub runs : not b ≡ false → length steps < length cells → Runs m steps cells
-  runs y l = record { is-valid = is-valid m tested (not-false b y); room = l }
+  runs y l = record { is_valid = is_valid m tested (not-false b y); room = l }
 
   pub ran : not b ≡ false → length steps < length cells → (r : Replayed) (run cleared : List ℕ) → Ran m steps cells r run
       → cleared ≡ replicate (length steps + 1) 0 ++ drop (length steps + 1) run → Replays m steps cells r cleared
   ran y l r run cleared h e = record {
-    answer = rw (sym tested ∙ not-false b y, lt-ltb (length steps) (length cells) l) (ap meaning h.answer ∙ means-replayed (replay (productOf m) (each steps loaded)));
+    answer = rw (sym tested ∙ not-false b y, lt-ltb (length steps) (length cells) l) (ap meaning h.answer ∙ means_replayed (replay (product_of m) (each steps loaded)));
     cells =
         e ∙ ap (λ (x : List ℕ). replicate (length steps + 1) 0 ++ x) h.rest
-        ∙ sym (ap (λ (r : Replayed). left r (length steps + 1) cells) h.answer ∙ left-replayed (replay (productOf m) (each steps loaded)) (length steps + 1) cells);
+        ∙ sym (ap (λ (r : Replayed). left r (length steps + 1) cells) h.answer ∙ left_replayed (replay (product_of m) (each steps loaded)) (length steps + 1) cells);
   }

@@ -14,12 +14,12 @@ use Rattle.product.specs.Answer.{Answer, answered, refused, Acceptance}
 use Rattle.product.specs.Product.{loaded}
 use Rattle.product.specs.Runs.{State, start, Reaches}
 use Rattle.product.specs.Replay as product
-use Rattle.product.specs.Replay.{replays, stops, replay, replayAnswer}
+use Rattle.product.specs.Replay.{replays, stops, replay, replay_answer}
 use Rattle.product.proofs.Lists.{T_true}
 use Rattle.product.proofs.Answer.{apart}
-use Rattle.product.proofs.Replay.{replay-is, StopsAt, replay-stops}
+use Rattle.product.proofs.Replay.{replay_is, StopsAt, replay_stops}
 use Rattle.model.specs.declared.Model.{Model}
-use Rattle.model.specs.Model.{productOf}
+use Rattle.model.specs.Model.{product_of}
 use Rattle.model.specs.Valid.{valid}
 use Rattle.replay.specs.declared.Replayed.{Replayed}
 use Rattle.replay.specs.declared.Replayed.TheVariants.{Accepted, Invalid, Short, Bad}
@@ -31,23 +31,23 @@ meant (answered a) = Accepted
 meant (refused n []) = Invalid
 meant (refused n (k ∷ _)) = cond (eqb n 6) Invalid (cond (eqb n 7) Short (Bad k))
 
-meant-meaning : (r : Replayed) → meant (meaning r) ≡ r
-meant-meaning Accepted = refl
-meant-meaning Invalid = refl
-meant-meaning Short = refl
-meant-meaning (Bad k) = refl
+meant_meaning : (r : Replayed) → meant (meaning r) ≡ r
+meant_meaning Accepted = refl
+meant_meaning Invalid = refl
+meant_meaning Short = refl
+meant_meaning (Bad k) = refl
 
-pub meaning-one : (r r' : Replayed) → meaning r ≡ meaning r' → r ≡ r'
-meaning-one = apart meant meant-meaning
+pub meaning_one : (r r' : Replayed) → meaning r ≡ meaning r' → r ≡ r'
+meaning_one = apart meant meant_meaning
 
 module _ (m : Model) (steps stack : List ℕ) where
-  pub one-outcome : {r r' : Replayed} {stack' stack'' : List ℕ} → Replays m steps stack r stack' → Replays m steps stack r' stack'' → (r ≡ r') × (stack' ≡ stack'')
-  one-outcome {r} {r'} a b =
-      let e : r ≡ r' = meaning-one r r' (a.answer ∙ sym b.answer) in
+  pub one_outcome : {r r' : Replayed} {stack' stack'' : List ℕ} → Replays m steps stack r stack' → Replays m steps stack r' stack'' → (r ≡ r') × (stack' ≡ stack'')
+  one_outcome {r} {r'} a b =
+      let e : r ≡ r' = meaning_one r r' (a.answer ∙ sym b.answer) in
       (e, a.cells ∙ ap (λ (r : Replayed). left r (length steps + 1) stack) e ∙ sym b.cells)
 
   -- which of the tests decided
-  decided : (x : product.Replayed) (v l : Bool) {r : Replayed} → r ≡ meant (cond v (cond l (replayAnswer x) (refused 7 (0 ∷ []))) (refused 6 (0 ∷ [])))
+  decided : (x : product.Replayed) (v l : Bool) {r : Replayed} → r ≡ meant (cond v (cond l (replay_answer x) (refused 7 (0 ∷ []))) (refused 6 (0 ∷ [])))
       → (r ≡ Accepted → T v × T l × (x ≡ replays)) × ((n : ℕ) → r ≡ Bad n → T v × T l × (x ≡ stops n))
   decided replays true true e = (λ a. (tt, tt, refl), λ n a. let z : ◌≡◌ {A = ℕ} 0 1 = cc in absurd (omega arith))
   decided (stops k) true true e = (λ a. let z : ◌≡◌ {A = ℕ} 0 1 = cc in absurd (omega arith), λ n a. (tt, tt, cc))
@@ -56,18 +56,18 @@ module _ (m : Model) (steps stack : List ℕ) where
 
   module _ {r : Replayed} {stack' : List ℕ} (h : Replays m steps stack r stack') where
     abbrev got : product.Replayed
-    got = replay (productOf m) (each steps loaded)
+    got = replay (product_of m) (each steps loaded)
 
-    of-tests : (r ≡ Accepted → T (valid m) × T (ltb (length steps) (length stack)) × (got ≡ replays))
+    of_tests : (r ≡ Accepted → T (valid m) × T (ltb (length steps) (length stack)) × (got ≡ replays))
         × ((n : ℕ) → r ≡ Bad n → T (valid m) × T (ltb (length steps) (length stack)) × (got ≡ stops n))
-    of-tests = decided got (valid m) (ltb (length steps) (length stack)) (sym (meant-meaning r) ∙ ap meant h.answer)
+    of_tests = decided got (valid m) (ltb (length steps) (length stack)) (sym (meant_meaning r) ∙ ap meant h.answer)
 
-    pub accepted-is : (r ≡ Accepted) ↔ (T (valid m) × (length steps < length stack) × ((c : State) × Reaches (productOf m) (each steps loaded) c))
-    accepted-is = (
-      λ e. let (v, l, x) = of-tests.0 e in (v, ltb→lt (length steps) (length stack) l, (replay-is (productOf m) (each steps loaded)).0 x),
-      λ (v, l, run). meaning-one r Accepted (h.answer ∙ rw (T_true (valid m) v, lt-ltb (length steps) (length stack) l, (replay-is (productOf m) (each steps loaded)).1 run)),
+    pub accepted_is : (r ≡ Accepted) ↔ (T (valid m) × (length steps < length stack) × ((c : State) × Reaches (product_of m) (each steps loaded) c))
+    accepted_is = (
+      λ e. let (v, l, x) = of_tests.0 e in (v, ltb→lt (length steps) (length stack) l, (replay_is (product_of m) (each steps loaded)).0 x),
+      λ (v, l, run). meaning_one r Accepted (h.answer ∙ rw (T_true (valid m) v, lt-ltb (length steps) (length stack) l, (replay_is (product_of m) (each steps loaded)).1 run)),
     )
 
     -- the steps before it are a run, and it is no step there, or the end is not final
-    pub bad-is : (n : ℕ) → r ≡ Bad n → (j : ℕ) × (suc j ≡ n) × StopsAt (productOf m) j (start (productOf m)) (each steps loaded)
-    bad-is n e = let (_, _, x) = of-tests.1 n e in replay-stops (productOf m) (each steps loaded) n x
+    pub bad_is : (n : ℕ) → r ≡ Bad n → (j : ℕ) × (suc j ≡ n) × StopsAt (product_of m) j (start (product_of m)) (each steps loaded)
+    bad_is n e = let (_, _, x) = of_tests.1 n e in replay_stops (product_of m) (each steps loaded) n x

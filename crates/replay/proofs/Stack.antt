@@ -12,9 +12,9 @@ use Rattle.model.specs.declared.Rule.TheVariants.{Exit, Direct, Call}
 use Rattle.model.specs.Answers.{meant}
 use Rattle.replay.specs.Machine.{below, Room, Replaced}
 
-pub length-below : (cells : List ℕ) (d : ℕ) → length (below cells d) ≡ d
-length-below cells zero = refl
-length-below cells (suc d) = ap suc (length-below cells d)
+pub length_below : (cells : List ℕ) (d : ℕ) → length (below cells d) ≡ d
+length_below cells zero = refl
+length_below cells (suc d) = ap suc (length_below cells d)
 
 pub below_set : (cells : List ℕ) (d i v : ℕ) → d ≤ i → below (set cells i v) d ≡ below cells d
 below_set cells zero i v l = refl
@@ -52,18 +52,18 @@ module _ (cells : List ℕ) where
 
   -- by the rule that the code was given
   module _ (depth : ℕ) {ρ : Rule} (room : Room cells depth (pushed (meant ρ))) where
-    pub direct-byte : {g g1 : ℕ} → ρ ≡ Direct g g1 → g1 < 256
-    direct-byte e = (rw e at room).bytes.0
+    pub direct_byte : {g g1 : ℕ} → ρ ≡ Direct g g1 → g1 < 256
+    direct_byte e = (rw e at room).bytes.0
 
-    pub call-bytes : {g g1 g2 : ℕ} → ρ ≡ Call g g1 g2 → (g1 < 256) × (g2 < 256)
-    call-bytes e = let r = (rw e at room).bytes in (r.0, r.1.0)
+    pub call_bytes : {g g1 g2 : ℕ} → ρ ≡ Call g g1 g2 → (g1 < 256) × (g2 < 256)
+    call_bytes e = let r = (rw e at room).bytes in (r.0, r.1.0)
 
-    pub exit-replaced : {g : ℕ} → ρ ≡ Exit g → Replaced depth (pushed (meant ρ)) cells (depth - 1) cells
-    exit-replaced e = rw e record { deep = omega arith; stack = refl; rest = λ k h. refl }
+    pub exit_replaced : {g : ℕ} → ρ ≡ Exit g → Replaced depth (pushed (meant ρ)) cells (depth - 1) cells
+    exit_replaced e = rw e record { deep = omega arith; stack = refl; rest = λ k h. refl }
 
-    pub direct-replaced : {g g1 : ℕ} → ρ ≡ Direct g g1 → Replaced depth (pushed (meant ρ)) cells depth (set cells (depth - 1) g1)
-    direct-replaced {g} {g1} e = rw e (put_one depth g1 room.some-top room.some-cell)
+    pub direct_replaced : {g g1 : ℕ} → ρ ≡ Direct g g1 → Replaced depth (pushed (meant ρ)) cells depth (set cells (depth - 1) g1)
+    direct_replaced {g} {g1} e = rw e (put_one depth g1 room.some_top room.some_cell)
 
-    pub call-replaced : {g g1 g2 : ℕ} → ρ ≡ Call g g1 g2
+    pub call_replaced : {g g1 g2 : ℕ} → ρ ≡ Call g g1 g2
         → Replaced depth (pushed (meant ρ)) cells (depth + 1) (set (set cells (depth - 1) g2) depth g1)
-    call-replaced {g} {g1} {g2} e = rw (e, add-one) (put_two depth g1 g2 room.some-top room.some-cell)
+    call_replaced {g} {g1} {g2} e = rw (e, add-one) (put_two depth g1 g2 room.some_top room.some_cell)

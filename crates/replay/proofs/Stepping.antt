@@ -7,24 +7,24 @@ use Prim.Native.Nat.{ℕ, zero, suc, ◌+◌, ◌-◌, ◌<◌, ◌≤◌}
 use native.Mathlib.Omega.{arith}
 use lib.ListN.{length, get_or, length-append}
 use Rattle.product.specs.Product as product
-use Rattle.product.specs.Product.{exit, direct, call, pushed, Product, Step, ruleOf}
+use Rattle.product.specs.Product.{exit, direct, call, pushed, Product, Step, rule_of}
 use Rattle.product.specs.Lists.{All}
 use Rattle.product.specs.Runs.{State, replaced, step}
 use Rattle.model.specs.declared.Rule.{Rule}
 use Rattle.model.specs.declared.Next.{Next}
 use Rattle.model.specs.declared.Next.TheVariants.{To, Stuck}
-use Rattle.model.specs.Answers.{ruleAs, meant, nextAs}
-use Rattle.model.proofs.Answers.{meant-as}
+use Rattle.model.specs.Answers.{rule_as, meant, next_as}
+use Rattle.model.proofs.Answers.{meant_as}
 use Rattle.replay.specs.declared.Outcome.{Outcome}
 use Rattle.replay.specs.declared.Outcome.TheVariants.{Moved, Blocked, Arrived}
 use Rattle.replay.specs.Machine.{below, Room, Replaced, goes_at, Ready, Stepped}
-use Rattle.replay.proofs.Stack.{length-below}
-use Rattle.replay.proofs.Going.{went, goes-next, step-goes}
+use Rattle.replay.proofs.Stack.{length_below}
+use Rattle.replay.proofs.Going.{went, goes_next, step_goes}
 
-few-pushed : (ρ : product.Rule) → length (pushed ρ) ≤ 2
-few-pushed (exit g) = omega arith
-few-pushed (direct g g1) = omega arith
-few-pushed (call g g1 g2) = omega arith
+few_pushed : (ρ : product.Rule) → length (pushed ρ) ≤ 2
+few_pushed (exit g) = omega arith
+few_pushed (direct g g1) = omega arith
+few_pushed (call g g1 g2) = omega arith
 
 -- the stack with its top apart
 below_top : (cells : List ℕ) (depth : ℕ) → 1 ≤ depth → below cells depth ≡ get_or cells (depth - 1) 0 ∷ below cells (depth - 1)
@@ -41,7 +41,7 @@ module _ (p : Product) (number depth : ℕ) (s : Step) (c : State) (cells : List
       → (b : Bool) → p.final q ≡ b → Stepped p number depth s c cells (cond b (Arrived (record { state = q; depth = d })) (Moved (record { state = q; depth = d }))) cells'
   reaches q gs cells' {d} t few e r b f =
       let w : List ℕ = gs ++ below cells (depth - 1) in
-      let l : length w ≡ length gs + (depth - 1) = length-append gs (below cells (depth - 1)) ∙ ap (λ (n : ℕ). length gs + n) (length-below cells (depth - 1)) in
+      let l : length w ≡ length gs + (depth - 1) = length-append gs (below cells (depth - 1)) ∙ ap (λ (n : ℕ). length gs + n) (length_below cells (depth - 1)) in
       let i : d ≡ length w = omega (arith, r.deep) in
       record {
         came = rw (e, f, i);
@@ -61,29 +61,29 @@ module _ {p : Product} {cells : List ℕ} {depth : ℕ} (ready : Ready p cells d
   unfolding step
   empty e = stays p number depth s (q, below cells depth) cells (rw e)
 
-  module _ (some-top : 1 ≤ depth) {n : Next} (answer : n ≡ nextAs (goes_at p s q top)) where
-    by-top : step p s (q, below cells depth) ≡ replaced (ruleOf p s) (below cells (depth - 1)) (goes_at p s q top)
-    by-top = ap (λ w. step p s (q, w)) (below_top cells depth some-top) ∙ step-goes p s q top (below cells (depth - 1))
+  module _ (some_top : 1 ≤ depth) {n : Next} (answer : n ≡ next_as (goes_at p s q top)) where
+    by_top : step p s (q, below cells depth) ≡ replaced (rule_of p s) (below cells (depth - 1)) (goes_at p s q top)
+    by_top = ap (λ w. step p s (q, w)) (below_top cells depth some_top) ∙ step_goes p s q top (below cells (depth - 1))
 
     pub stuck : n ≡ Stuck → Done (Blocked number) cells
-    stuck e = stays p number depth s (q, below cells depth) cells (by-top ∙ ap (replaced (ruleOf p s) (below cells (depth - 1))) (went p s q top answer e))
+    stuck e = stays p number depth s (q, below cells depth) cells (by_top ∙ ap (replaced (rule_of p s) (below cells (depth - 1))) (went p s q top answer e))
 
-    module _ {q' : ℕ} (to : n ≡ To q') {ρ : Rule} (read : ρ ≡ ruleAs (ruleOf p s)) where
+    module _ {q' : ℕ} (to : n ≡ To q') {ρ : Rule} (read : ρ ≡ rule_as (rule_of p s)) where
       goes : goes_at p s q top ≡ some q'
       goes = went p s q top answer to
 
-      rule-is : ruleOf p s ≡ meant ρ
-      rule-is = sym (ap meant read ∙ meant-as (ruleOf p s))
+      rule_is : rule_of p s ≡ meant ρ
+      rule_is = sym (ap meant read ∙ meant_as (rule_of p s))
 
-      pub top-room : Room cells depth (pushed (meant ρ))
-      top-room = record {
-        some-top = some-top;
-        some-cell = ready.room;
-        bytes = subst (λ ρ. All (λ g. g < 256) (pushed ρ)) rule-is (ready.symbols s q q' (goes-next p s q top goes));
+      pub top_room : Room cells depth (pushed (meant ρ))
+      top_room = record {
+        some_top = some_top;
+        some_cell = ready.room;
+        bytes = subst (λ ρ. All (λ g. g < 256) (pushed ρ)) rule_is (ready.symbols s q q' (goes_next p s q top goes));
       }
 
       pub stepped : {d : ℕ} {cells' : List ℕ} → Replaced depth (pushed (meant ρ)) cells d cells' → {b : Bool} → b ≡ p.final q' → (b' : Bool) → b ≡ b'
           → Done (cond b' (Arrived (record { state = q'; depth = d })) (Moved (record { state = q'; depth = d }))) cells'
       stepped {d} {cells'} r f b' e =
-          reaches p number depth s (q, below cells depth) cells q' (pushed (meant ρ)) cells' some-top (few-pushed (meant ρ))
-          (by-top ∙ ap (replaced (ruleOf p s) (below cells (depth - 1))) goes ∙ ap (λ ρ. some (q', pushed ρ ++ below cells (depth - 1))) rule-is) r b' (sym f ∙ e)
+          reaches p number depth s (q, below cells depth) cells q' (pushed (meant ρ)) cells' some_top (few_pushed (meant ρ))
+          (by_top ∙ ap (replaced (rule_of p s) (below cells (depth - 1))) goes ∙ ap (λ ρ. some (q', pushed ρ ++ below cells (depth - 1))) rule_is) r b' (sym f ∙ e)

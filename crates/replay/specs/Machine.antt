@@ -2,17 +2,17 @@
 use Rattle.std.specs.Prelude.{cond, List, [], ◌∷◌, ◌++◌, ◌≡◌, ℕ, zero, suc, ◌+◌, ◌-◌, ◌<◌, ◌≤◌, T, eqb, length, get_or, drop}
 use Rattle.std.proofs.Math.Option.{Option, none, some}
 use Rattle.product.specs.Lists.{All, each}
-use Rattle.product.specs.Product.{Product, symbol, pushed, Step, ruleOf, loaded}
+use Rattle.product.specs.Product.{Product, symbol, pushed, Step, rule_of, loaded}
 use Rattle.product.specs.Runs.{State, step}
 use Rattle.product.specs.Replay.{replay}
 use Rattle.model.specs.declared.Model.{Model}
-use Rattle.model.specs.Model.{productOf}
+use Rattle.model.specs.Model.{product_of}
 use Rattle.model.specs.Valid.{valid}
 use Rattle.replay.specs.declared.Machine.{Machine}
 use Rattle.replay.specs.declared.Outcome.{Outcome}
 use Rattle.replay.specs.declared.Outcome.TheVariants.{Moved, Blocked, Arrived}
 use Rattle.replay.specs.declared.Replayed.{Replayed}
-use Rattle.replay.specs.Replay.{replayedAs}
+use Rattle.replay.specs.Replay.{replayed_as}
 
 -- the stack of depth d: the first d cells, the last of them on top
 abbrev pub below : List ℕ → ℕ → List ℕ
@@ -21,8 +21,8 @@ below cells (suc d) = get_or cells d 0 ∷ below cells d
 
 -- a top to replace, a cell above it, and symbols that fit a byte
 pub record Room (cells : List ℕ) (depth : ℕ) (gs : List ℕ) : Type 0 where
-  pub some-top : 1 ≤ depth
-  pub some-cell : depth < length cells
+  pub some_top : 1 ≤ depth
+  pub some_cell : depth < length cells
   pub bytes : All (λ g. g < 256) gs
 
 -- the top gives way to the symbols gs, and the cells past the one above it are as before
@@ -33,11 +33,11 @@ pub record Replaced (depth : ℕ) (gs cells : List ℕ) (d : ℕ) (cells' : List
 
 -- the state after a step from q with g on top
 abbrev pub goes_at : Product → Step → (q g : ℕ) → Option ℕ
-goes_at p s q g = cond (eqb (symbol (ruleOf p s)) g) (p.next s q) none
+goes_at p s q g = cond (eqb (symbol (rule_of p s)) g) (p.next s q) none
 
 -- what a step asks: symbols that fit a byte, and a cell above the top
 pub record Ready (p : Product) (cells : List ℕ) (depth : ℕ) : Type 0 where
-  pub symbols : (s : Step) (q q' : ℕ) → p.next s q ≡ some q' → All (λ g. g < 256) (pushed (ruleOf p s))
+  pub symbols : (s : Step) (q q' : ℕ) → p.next s q ≡ some q' → All (λ g. g < 256) (pushed (rule_of p s))
   pub room : depth < length cells
 
 -- the machine in a state, and the outcome of a step into it
@@ -61,9 +61,9 @@ pub record Stepped (p : Product) (number depth : ℕ) (s : Step) (c : State) (ce
 
 -- what a run asks, and what it answers and leaves
 pub record Runs (m : Model) (steps cells : List ℕ) : Type 0 where
-  pub is-valid : T (valid m)
+  pub is_valid : T (valid m)
   pub room : length steps < length cells
 
 pub record Ran (m : Model) (steps cells : List ℕ) (r : Replayed) (cells' : List ℕ) : Type 0 where
-  pub answer : r ≡ replayedAs (replay (productOf m) (each steps loaded))
+  pub answer : r ≡ replayed_as (replay (product_of m) (each steps loaded))
   pub rest : drop (length steps + 1) cells' ≡ drop (length steps + 1) cells

@@ -4,9 +4,9 @@ use Rattle.product.specs.Lists.{each}
 use Rattle.product.specs.Answer.{Answer, answered, refused, Acceptance, accepted}
 use Rattle.product.specs.Product.{loaded}
 use Rattle.product.specs.Replay as product
-use Rattle.product.specs.Replay.{replays, stops, replay, replayAnswer}
+use Rattle.product.specs.Replay.{replays, stops, replay, replay_answer}
 use Rattle.model.specs.declared.Model.{Model}
-use Rattle.model.specs.Model.{productOf}
+use Rattle.model.specs.Model.{product_of}
 use Rattle.model.specs.Valid.{valid}
 use Rattle.replay.specs.declared.Replayed.{Replayed}
 use Rattle.replay.specs.declared.Replayed.TheVariants.{Accepted, Invalid, Short, Bad}
@@ -22,13 +22,13 @@ meaning (Bad k) = refused 12 (k ∷ [])
 abbrev pub replayed : Model → (steps : List ℕ) → (room : ℕ) → Answer Acceptance
 replayed m steps room =
     cond (valid m)
-    (cond (ltb (length steps) room) (replayAnswer (replay (productOf m) (each steps loaded))) (refused 7 (0 ∷ [])))
+    (cond (ltb (length steps) room) (replay_answer (replay (product_of m) (each steps loaded))) (refused 7 (0 ∷ [])))
     (refused 6 (0 ∷ []))
 
 -- the code's answer for the steps
-abbrev pub replayedAs : product.Replayed → Replayed
-replayedAs replays = Accepted
-replayedAs (stops k) = Bad k
+abbrev pub replayed_as : product.Replayed → Replayed
+replayed_as replays = Accepted
+replayed_as (stops k) = Bad k
 
 -- the cells afterwards: nothing is written on 6 and 7; after any run the first n are 0
 abbrev pub left : Replayed → (n : ℕ) → (stack : List ℕ) → List ℕ

@@ -1,8 +1,8 @@
 // The replay of a stored trace: a machine of a property state and a stack, whose symbols lie in a lent array, the top last.
 ghost use Rattle.std.specs.Prelude.{◌++◌, ◌≡◌, ◌≤◌, eqb, length, replicate, drop};
 ghost use Rattle.product.specs.Product.{symbol, pushed, loaded};
-ghost use Rattle.lent.specs.Lending.{modelIn, productIn};
-ghost use Rattle.model.specs.Answers.{meant, nextAs};
+ghost use Rattle.lent.specs.Lending.{model_in, product_in};
+ghost use Rattle.model.specs.Answers.{meant, next_as};
 ghost use Rattle.replay.specs.Replay.{Replays};
 ghost use Rattle.replay.specs.Machine.{below, Room, Replaced, goes_at, Ready, Stepped, Runs, Ran};
 
@@ -66,7 +66,7 @@ fn replace(stack: &mut [u8], depth: usize, rule: Rule) -> usize
 
 // The state after the stored step n from state q with g on top, or none: one that names no rule or move is no step.
 fn goes(m: &Lent, n: u16, q: usize, g: usize) -> Next
-    ensures { result ≡ nextAs (goes_at (productIn m.now) (loaded n) q g) }
+    ensures { result ≡ next_as (goes_at (product_in m.now) (loaded n) q g) }
 {
     let r = (n / 128) as usize;
     let v = (n % 128) as usize;
@@ -78,8 +78,8 @@ fn goes(m: &Lent, n: u16, q: usize, g: usize) -> Next
 
 // One step of the machine, by the stored step n, which is the trace's step `number`.
 fn step(m: &Lent, stack: &mut [u8], at: Machine, n: u16, number: usize) -> Outcome
-    requires { Ready (productIn m.now) stack.old at.depth }
-    ensures { Stepped (productIn m.now) number at.depth (loaded n) (at.state, below stack.old at.depth)
+    requires { Ready (product_in m.now) stack.old at.depth }
+    ensures { Stepped (product_in m.now) number at.depth (loaded n) (at.state, below stack.old at.depth)
         stack.old result stack.new }
 {
     let depth = at.depth;
@@ -118,8 +118,8 @@ fn clear(stack: &mut [u8], count: usize)
 
 // Runs the steps from the start. The outcome of the last decides; before any step, the start does.
 fn run(m: &Lent, steps: &[u16], stack: &mut [u8]) -> Replayed
-    requires { Runs (modelIn m.now) steps.now stack.old }
-    ensures { Ran (modelIn m.now) steps.now stack.old result stack.new }
+    requires { Runs (model_in m.now) steps.now stack.old }
+    ensures { Ran (model_in m.now) steps.now stack.old result stack.new }
 {
     let s = shape(m);
     let start = s.startstate as usize;
@@ -155,7 +155,7 @@ fn run(m: &Lent, steps: &[u16], stack: &mut [u8]) -> Replayed
 
 // Replays a stored trace over a stack that the caller lends.
 pub fn replay_steps(m: &Lent, steps: &[u16], stack: &mut [u8]) -> Replayed
-    ensures { Replays (modelIn m.now) steps.now stack.old result stack.new }
+    ensures { Replays (model_in m.now) steps.now stack.old result stack.new }
 {
     if !is_valid(m) {
         return Replayed::Invalid;

@@ -2,7 +2,7 @@
 use Rattle.std.specs.Prelude.{List, ◌≡◌, ℕ, length}
 use Rattle.product.specs.Verdict.{bound}
 use Rattle.model.specs.declared.Model.{Model}
-use Rattle.model.specs.Model.{productOf}
+use Rattle.model.specs.Model.{product_of}
 use Rattle.fitting.specs.Fits.{Fits}
 use Rattle.trace.specs.declared.Traced.{Traced}
 use Rattle.trace.specs.Outcome.{Outcome}
@@ -15,4 +15,4 @@ pub record Told (m : Model) (told : Traced) (heads triples steps : List ℕ) : T
   pub rm : List ℕ
   pub fits : Fits m (length hs) (length ts)
   pub roomy : length rm ≡ room
-  pub outcome : Outcome m (bound (productOf m)) hs ts rm told heads triples steps
+  pub outcome : Outcome m (bound (product_of m)) hs ts rm told heads triples steps

@@ -1,12 +1,12 @@
 // What `pdcheck` prints, from the text that it reads: the refusal of the text, the trace of a violation, or the listing of a safe table.
 ghost use Rattle.std.specs.Prelude.{◌≡◌, T, length};
-ghost use Rattle.lent.specs.Lending.{modelIn, productIn};
+ghost use Rattle.lent.specs.Lending.{model_in, product_in};
 ghost use Rattle.product.specs.Verdict.{bound};
 ghost use Rattle.model.specs.Valid.{valid};
 ghost use Rattle.fitting.specs.Fits.{Fits};
 ghost use Rattle.text.specs.Put.{Put};
 ghost use Rattle.printing.specs.Writing.{bytes_of};
-ghost use Rattle.report.specs.Output.{modelOutput, checkOutput};
+ghost use Rattle.report.specs.Output.{model_output, check_output};
 ghost use Rattle.report.specs.Told.{Told};
 
 use lent::Lent;
@@ -16,8 +16,8 @@ use violation::{ROOM, put_violation};
 
 // Puts the listing of a safe table. The record is valid and the arrays are long enough, so that it is never refused.
 fn put_safe(out: &mut [u8], m: &Lent, rounds: u16, heads: &[u16], triples: &[u16]) -> usize
-    requires { Fits (modelIn m.now) (length heads.now) (length triples.now) }
-    ensures { Put out.old out.new 0 result (bytes_of (modelIn m.now) rounds heads.now triples.now) }
+    requires { Fits (model_in m.now) (length heads.now) (length triples.now) }
+    ensures { Put out.old out.new 0 result (bytes_of (model_in m.now) rounds heads.now triples.now) }
 {
     let w = printing::write_listing(m, rounds, heads, triples, out);
     match w {
@@ -38,8 +38,8 @@ fn put_told(
     triples: &[u16],
     steps: &[u16],
 ) -> usize
-    requires { Told (modelIn m.now) told heads.now triples.now steps.now }
-    ensures { Put out.old out.new 0 result (modelOutput (modelIn m.now)) }
+    requires { Told (model_in m.now) told heads.now triples.now steps.now }
+    ensures { Put out.old out.new 0 result (model_output (model_in m.now)) }
 {
     match told {
         Traced::Found { rounds, steps: n } => put_violation(out, m, true, rounds, steps, n),
@@ -53,8 +53,8 @@ fn put_told(
 
 // The budget that is always enough.
 fn budget(m: &Lent) -> u32
-    requires { T (valid (modelIn m.now)) }
-    ensures { result ≡ bound (productIn m.now) }
+    requires { T (valid (model_in m.now)) }
+    ensures { result ≡ bound (product_in m.now) }
 {
     let size = fitting::size_of(m);
     let g = size.symbols as u32;
@@ -64,8 +64,8 @@ fn budget(m: &Lent) -> u32
 
 // Decides a valid model and puts what is found.
 fn put_model(out: &mut [u8], m: &Lent) -> usize
-    requires { T (valid (modelIn m.now)) }
-    ensures { Put out.old out.new 0 result (modelOutput (modelIn m.now)) }
+    requires { T (valid (model_in m.now)) }
+    ensures { Put out.old out.new 0 result (model_output (model_in m.now)) }
 {
     let mut heads = [0u16; 256];
     let mut triples = [0u16; 2048];
@@ -77,7 +77,7 @@ fn put_model(out: &mut [u8], m: &Lent) -> usize
 
 // All that is printed for a text, into `out`, as much of it as has room.
 pub fn check_text(text: &[u8], out: &mut [u8]) -> usize
-    ensures { Put out.old out.new 0 result (checkOutput text.now) }
+    ensures { Put out.old out.new 0 result (check_output text.now) }
 {
     let mut m = lent::blank();
     let seen = refusal::read_or_refuse(text, &mut m, out);

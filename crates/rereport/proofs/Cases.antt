@@ -9,79 +9,79 @@ use lib.Dec.{T}
 use Rattle.product.specs.Answer.{refused}
 use Rattle.model.specs.declared.Model.{Model}
 use Rattle.model.specs.Valid.{valid}
-use Rattle.lent.specs.Lending.{modelIn}
-use Rattle.reader.specs.Text.{readModel}
+use Rattle.lent.specs.Lending.{model_in}
+use Rattle.reader.specs.Text.{read_model}
 use Rattle.refusal.specs.declared.Seen.{Seen}
-use Rattle.refusal.specs.Refusal.{unlessRefused, Seeing}
-use Rattle.refusal.proofs.Reading.{accepted-put, refused-put}
-use Rattle.splitter.specs.Part.{listingOf, modelPart}
+use Rattle.refusal.specs.Refusal.{unless_refused, Seeing}
+use Rattle.refusal.proofs.Reading.{accepted_put, refused_put}
+use Rattle.splitter.specs.Part.{listing_of, model_part}
 use Rattle.fitting.specs.Fits.{Fits}
 use Rattle.listing.specs.declared.ListingRead.{ListingRead}
 use Rattle.listing.specs.Reading.{meaning, Reads}
-use Rattle.fitting.proofs.Tested.{tested-well}
+use Rattle.fitting.proofs.Tested.{tested_well}
 use Rattle.recheck.specs.declared.Recheck.{Recheck}
 use Rattle.recheck.specs.Recheck as check
 use Rattle.recheck.specs.Recheck.{recheck}
 use Rattle.text.specs.Put.{Put}
-use Rattle.text.proofs.Puts.{as-put}
-use Rattle.rereport.specs.Heard.{lineIn, Heard}
-use Rattle.rereport.specs.Output.{checkBytes, listingRead, listingBytes, listingOutput, recheckOutput}
-use Rattle.rereport.proofs.Small.{listing-line, listing-number, ruleIn, moveIn, recheck-few, not-refused}
+use Rattle.text.proofs.Puts.{as_put}
+use Rattle.rereport.specs.Heard.{line_in, Heard}
+use Rattle.rereport.specs.Output.{check_bytes, listing_read, listing_bytes, listing_output, recheck_output}
+use Rattle.rereport.proofs.Small.{listing_line, listing_number, rule_in, move_in, recheck_few, not_refused}
 
 -- the check, by the case of its answer
 module _ (m : Model) (hs ts : List ℕ) (f : Fits m (length hs) (length ts)) {x c : Recheck} (e : check.meaning x ≡ recheck m hs ts) (t : x ≡ c) where
   means : check.meaning c ≡ recheck m hs ts
   means = sym (ap check.meaning t) ∙ e
 
-  pub checked-put : {o p : List ℕ} {a b : ℕ} → Put o p a b (checkBytes (check.meaning c)) → Put o p a b (checkBytes (recheck m hs ts))
-  checked-put w = as-put (ap checkBytes means) w
+  pub checked_put : {o p : List ℕ} {a b : ℕ} → Put o p a b (check_bytes (check.meaning c)) → Put o p a b (check_bytes (recheck m hs ts))
+  checked_put w = as_put (ap check_bytes means) w
 
-  pub rule_fits : ruleIn (check.meaning c) < 65536
-  rule_fits = omega (arith, (recheck-few m hs ts f).0, ap ruleIn means)
+  pub rule_fits : rule_in (check.meaning c) < 65536
+  rule_fits = omega (arith, (recheck_few m hs ts f).0, ap rule_in means)
 
-  pub move-fits : moveIn (check.meaning c) < 65536
-  move-fits = omega (arith, (recheck-few m hs ts f).1, ap moveIn means)
+  pub move_fits : move_in (check.meaning c) < 65536
+  move_fits = omega (arith, (recheck_few m hs ts f).1, ap move_in means)
 
   -- it is neither 6 nor 7
   pub never : (n : ℕ) (vs : List ℕ) → n < 11 → check.meaning c ≡ refused n vs → ⊥
-  never n vs l k = not-refused m hs ts f n vs l (sym k ∙ means)
+  never n vs l k = not_refused m hs ts f n vs l (sym k ∙ means)
 
 -- a listing, by the case of its answer
-pub case-put : (m : Model) (hs ts : List ℕ) {o p : List ℕ} {a b : ℕ} {x w : ListingRead} → x ≡ w
-    → Put o p a b (listingBytes (meaning w) (recheck m hs ts)) → Put o p a b (listingBytes (meaning x) (recheck m hs ts))
-case-put m hs ts e y = as-put (ap (λ x. listingBytes (meaning x) (recheck m hs ts)) (sym e)) y
+pub case_put : (m : Model) (hs ts : List ℕ) {o p : List ℕ} {a b : ℕ} {x w : ListingRead} → x ≡ w
+    → Put o p a b (listing_bytes (meaning w) (recheck m hs ts)) → Put o p a b (listing_bytes (meaning x) (recheck m hs ts))
+case_put m hs ts e y = as_put (ap (λ x. listing_bytes (meaning x) (recheck m hs ts)) (sym e)) y
 
-pub case-line : {m : Model} {x w : ListingRead} {h t : ℕ} → Heard m x h t → x ≡ w → lineIn (meaning w) < 65536
-case-line r e = omega (arith, r.small, ap (λ x. lineIn (meaning x)) e)
+pub case_line : {m : Model} {x w : ListingRead} {h t : ℕ} → Heard m x h t → x ≡ w → line_in (meaning w) < 65536
+case_line r e = omega (arith, r.small, ap (λ x. line_in (meaning x)) e)
 
 -- the reading of a listing, of a valid model and into arrays that have room
 module _ (m : Model) (text : List ℕ) {hs ts hs' ts' : List ℕ} {x : ListingRead} (f : Fits m (length hs) (length ts)) (r : Reads m text hs ts hs' ts' x) where
-  read_is : meaning x ≡ listingRead m text
-  read_is = r.answer ∙ tested-well m (length hs) (length ts) f _ _ _
+  read_is : meaning x ≡ listing_read m text
+  read_is = r.answer ∙ tested_well m (length hs) (length ts) f _ _ _
 
   pub heard : {h t : ℕ} → Fits m h t → Heard m x h t
   heard g = record {
     fits = g;
-    not-invalid = λ e. listing-number m text 6 (0 ∷ []) (omega arith) (sym (ap meaning e) ∙ read_is);
-    not_short = λ e. listing-number m text 7 (0 ∷ []) (omega arith) (sym (ap meaning e) ∙ read_is);
-    small = omega (arith, listing-line m text, ap lineIn read_is);
+    not_invalid = λ e. listing_number m text 6 (0 ∷ []) (omega arith) (sym (ap meaning e) ∙ read_is);
+    not_short = λ e. listing_number m text 7 (0 ∷ []) (omega arith) (sym (ap meaning e) ∙ read_is);
+    small = omega (arith, listing_line m text, ap line_in read_is);
   }
 
-  pub heard-put : {o p : List ℕ} {a b : ℕ} → Put o p a b (listingBytes (meaning x) (recheck m hs' ts')) → Put o p a b (listingOutput m text hs ts)
-  unfolding listingOutput
-  heard-put y =
-      as-put
-      (ap (λ x. listingBytes x (recheck m hs' ts')) read_is
-      ∙ ap₂ (λ h t. listingBytes (listingRead m text) (recheck m h t)) (r.heads-left ∙ tested-well m (length hs) (length ts) f _ _ _) (r.triples-left ∙ tested-well m (length hs) (length ts) f _ _ _))
+  pub heard_put : {o p : List ℕ} {a b : ℕ} → Put o p a b (listing_bytes (meaning x) (recheck m hs' ts')) → Put o p a b (listing_output m text hs ts)
+  unfolding listing_output
+  heard_put y =
+      as_put
+      (ap (λ x. listing_bytes x (recheck m hs' ts')) read_is
+      ∙ ap₂ (λ h t. listing_bytes (listing_read m text) (recheck m h t)) (r.heads_left_lem ∙ tested_well m (length hs) (length ts) f _ _ _) (r.triples_left_lem ∙ tested_well m (length hs) (length ts) f _ _ _))
       y
 
 -- the model is read from one part of the text, and the listing is the other
-module _ (text : List ℕ) {part o p cells : List ℕ} {s : Seen} (k : part ≡ modelPart text) (x : Seeing part o p s cells) where
+module _ (text : List ℕ) {part o p cells : List ℕ} {s : Seen} (k : part ≡ model_part text) (x : Seeing part o p s cells) where
   abbrev output : List ℕ → Model → List ℕ
-  output rest m = listingOutput m rest (replicate 256 0) (replicate 2048 0)
+  output rest m = listing_output m rest (replicate 256 0) (replicate 2048 0)
 
-  pub seen-put : {rest q : List ℕ} {b : ℕ} → rest ≡ listingOf text → s.accepted ≡ true → Put p q 0 b (output rest (modelIn cells)) → Put o q 0 b (recheckOutput text)
-  seen-put {rest} {q} {b} e t y = as-put (ap₂ (λ part rest. unlessRefused (readModel part) (output rest)) k e) (accepted-put x t (output rest) y)
+  pub seen_put : {rest q : List ℕ} {b : ℕ} → rest ≡ listing_of text → s.accepted ≡ true → Put p q 0 b (output rest (model_in cells)) → Put o q 0 b (recheck_output text)
+  seen_put {rest} {q} {b} e t y = as_put (ap₂ (λ part rest. unless_refused (read_model part) (output rest)) k e) (accepted_put x t (output rest) y)
 
-  pub unseen-put : s.accepted ≡ false → Put o p 0 s.end (recheckOutput text)
-  unseen-put t = as-put (ap (λ part. unlessRefused (readModel part) (output (listingOf text))) k) (refused-put x t (output (listingOf text)))
+  pub unseen_put : s.accepted ≡ false → Put o p 0 s.end (recheck_output text)
+  unseen_put t = as_put (ap (λ part. unless_refused (read_model part) (output (listing_of text))) k) (refused_put x t (output (listing_of text)))

@@ -8,13 +8,13 @@ use Rattle.listing.specs.Reading.{meaning}
 use Rattle.fitting.specs.Fits.{Fits}
 
 -- the line of a refusal
-abbrev pub lineIn : Answer ℕ → ℕ
-lineIn (answered rounds) = 0
-lineIn (refused number values) = get_or values 0 0
+abbrev pub line_in : Answer ℕ → ℕ
+line_in (answered rounds) = 0
+line_in (refused number values) = get_or values 0 0
 
 -- the model is valid, the arrays are long enough for its table, the record and the arrays were not refused, and the line is a small number
 pub record Heard (m : Model) (heard : ListingRead) (heads triples : ℕ) : Type 0 where
   pub fits : Fits m heads triples
-  pub not-invalid : heard ≡ Invalid → ⊥
+  pub not_invalid : heard ≡ Invalid → ⊥
   pub not_short : heard ≡ Short → ⊥
-  pub small : lineIn (meaning heard) < 65536
+  pub small : line_in (meaning heard) < 65536

@@ -2,38 +2,38 @@
 use Rattle.std.specs.Prelude.{List, [], ◌∷◌, ℕ, replicate}
 use Rattle.product.specs.Answer.{Answer, answered, refused, Acceptance}
 use Rattle.model.specs.declared.Model.{Model}
-use Rattle.reader.specs.Text.{readModel}
-use Rattle.splitter.specs.Part.{listingOf, modelPart}
-use Rattle.listing.specs.Reading.{lines_of, answer_of, headsLeft, triplesLeft}
+use Rattle.reader.specs.Text.{read_model}
+use Rattle.splitter.specs.Part.{listing_of, model_part}
+use Rattle.listing.specs.Reading.{lines_of, answer_of, heads_left, triples_left}
 use Rattle.recheck.specs.Recheck.{recheck}
-use Rattle.print.specs.Bytes.{lineBytes}
-use Rattle.refusal.specs.Refusal.{refusedWord, unlessRefused}
+use Rattle.print.specs.Bytes.{line_bytes}
+use Rattle.refusal.specs.Refusal.{refused_word, unless_refused}
 
 -- "accepted" and a line feed
-abbrev pub acceptedLine : List ℕ
-acceptedLine = 97 ∷ 99 ∷ 99 ∷ 101 ∷ 112 ∷ 116 ∷ 101 ∷ 100 ∷ 10 ∷ []
+abbrev pub accepted_line : List ℕ
+accepted_line = 97 ∷ 99 ∷ 99 ∷ 101 ∷ 112 ∷ 116 ∷ 101 ∷ 100 ∷ 10 ∷ []
 
 -- `refused`, number, and what is returned with it; or what an answer prints
-abbrev pub answerBytes : {A : Type 0} → (A → List ℕ) → Answer A → List ℕ
-answerBytes prints (answered a) = prints a
-answerBytes prints (refused number values) = lineBytes refusedWord (number ∷ values)
+abbrev pub answer_bytes : {A : Type 0} → (A → List ℕ) → Answer A → List ℕ
+answer_bytes prints (answered a) = prints a
+answer_bytes prints (refused number values) = line_bytes refused_word (number ∷ values)
 
 -- the answer of the check: of a valid model with arrays of its sizes it is no refusal but 11 (proofs/Small)
-abbrev pub checkBytes : Answer Acceptance → List ℕ
-checkBytes c = answerBytes (λ _. acceptedLine) c
+abbrev pub check_bytes : Answer Acceptance → List ℕ
+check_bytes c = answer_bytes (λ _. accepted_line) c
 
 -- what the listing is read as
-abbrev pub listingRead : Model → List ℕ → Answer ℕ
-listingRead m text = answer_of (lines_of m text)
+abbrev pub listing_read : Model → List ℕ → Answer ℕ
+listing_read m text = answer_of (lines_of m text)
 
 -- an accepted listing is checked
-abbrev pub listingBytes : Answer ℕ → Answer Acceptance → List ℕ
-listingBytes heard c = answerBytes (λ rounds. checkBytes c) heard
+abbrev pub listing_bytes : Answer ℕ → Answer Acceptance → List ℕ
+listing_bytes heard c = answer_bytes (λ rounds. check_bytes c) heard
 
 -- with the table that the reading leaves in two arrays
-unfoldable pub listingOutput : Model → (text heads triples : List ℕ) → List ℕ
-listingOutput m text hs ts = listingBytes (listingRead m text) (recheck m (headsLeft m (lines_of m text) hs) (triplesLeft m (lines_of m text) ts))
+unfoldable pub listing_output : Model → (text heads triples : List ℕ) → List ℕ
+listing_output m text hs ts = listing_bytes (listing_read m text) (recheck m (heads_left m (lines_of m text) hs) (triples_left m (lines_of m text) ts))
 
 -- all that is printed: the refusal of the model, or what the listing behind it prints, read into arrays of zeros
-abbrev pub recheckOutput : List ℕ → List ℕ
-recheckOutput text = unlessRefused (readModel (modelPart text)) (λ m. listingOutput m (listingOf text) (replicate 256 0) (replicate 2048 0))
+abbrev pub recheck_output : List ℕ → List ℕ
+recheck_output text = unless_refused (read_model (model_part text)) (λ m. listing_output m (listing_of text) (replicate 256 0) (replicate 2048 0))

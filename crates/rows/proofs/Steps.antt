@@ -10,74 +10,74 @@ use Rattle.text.specs.Split.{pick}
 use Rattle.numbers.specs.Number.{nth}
 use Rattle.numbers.specs.declared.Numbers.{Numbers}
 use Rattle.table.specs.declared.Size.{Size}
-use Rattle.ranking.specs.Rank.{largest, headFault, headPut, tripleFault, triplePut, Ranked}
-use Rattle.ranking.proofs.Faults.{ranked-cells, unranked-cells}
+use Rattle.ranking.specs.Rank.{largest, head_fault, head_put, triple_fault, triple_put, Ranked}
+use Rattle.ranking.proofs.Faults.{ranked_cells, unranked_cells}
 use Rattle.listingline.specs.declared.Word.{Word}
 use Rattle.listingline.specs.declared.Word.TheVariants.{Safe, Head, Erase, Unknown}
 use Rattle.listingline.specs.declared.Line.{Line}
 use Rattle.rows.specs.declared.Tally.{Tally}
 use Rattle.rows.specs.State.{State, Step, whole}
-use Rattle.rows.specs.Lines.{refuse, goes, withHeader, headsBy, triplesBy, safeStep, unless, headStep, tripleStep, stepBy, step_of}
+use Rattle.rows.specs.Lines.{refuse, goes, with_header, heads_by, triples_by, safe_step, unless, head_step, triple_step, step_by, step_of}
 
 -- the header
 module _ (s : State) (n : Numbers) where
-  pub safe-malformed : (n.count ≡ 3 → ⊥) → refuse 2 s ≡ safeStep s n
-  unfolding safeStep
-  safe-malformed c = rw (ne_eqb _ _ c)
+  pub safe_malformed : (n.count ≡ 3 → ⊥) → refuse 2 s ≡ safe_step s n
+  unfolding safe_step
+  safe_malformed c = rw (ne_eqb _ _ c)
 
   module _ (c : n.count ≡ 3) where
-    pub safe-twice : (s.begun ≡ 0 → ⊥) → refuse 3 s ≡ safeStep s n
-    unfolding safeStep
-    safe-twice h = rw (eq-eqb _ _ c, ne_eqb _ _ h)
+    pub safe_twice : (s.begun ≡ 0 → ⊥) → refuse 3 s ≡ safe_step s n
+    unfolding safe_step
+    safe_twice h = rw (eq-eqb _ _ c, ne_eqb _ _ h)
 
-    pub safe-large : s.begun ≡ 0 → largest < nth n 0 → refuse 4 s ≡ safeStep s n
-    unfolding safeStep
-    safe-large h l = rw (eq-eqb _ _ c, eq-eqb _ _ h, lt-ltb _ _ l)
+    pub safe_large : s.begun ≡ 0 → largest < nth n 0 → refuse 4 s ≡ safe_step s n
+    unfolding safe_step
+    safe_large h l = rw (eq-eqb _ _ c, eq-eqb _ _ h, lt-ltb _ _ l)
 
-    pub safe-taken : s.begun ≡ 0 → nth n 0 ≤ largest → goes (withHeader s (nth n 0) (nth n 1) (nth n 2)) ≡ safeStep s n
-    unfolding safeStep
-    safe-taken h l = rw (eq-eqb _ _ c, eq-eqb _ _ h, le-ltb _ _ l)
+    pub safe_taken : s.begun ≡ 0 → nth n 0 ≤ largest → goes (with_header s (nth n 0) (nth n 1) (nth n 2)) ≡ safe_step s n
+    unfolding safe_step
+    safe_taken h l = rw (eq-eqb _ _ c, eq-eqb _ _ h, le-ltb _ _ l)
 
 -- a fact's line by its fault
 module _ {f g : ℕ} (e : f ≡ g) (s next : State) where
-  step-refused : (f ≡ 0 → ⊥) → refuse f s ≡ unless g s next
-  step-refused h = rw (← e, ne_eqb _ _ h)
+  step_refused : (f ≡ 0 → ⊥) → refuse f s ≡ unless g s next
+  step_refused h = rw (← e, ne_eqb _ _ h)
 
-  step-taken : f ≡ 0 → goes next ≡ unless g s next
-  step-taken h = rw (← e, eq-eqb _ _ h)
+  step_taken : f ≡ 0 → goes next ≡ unless g s next
+  step_taken h = rw (← e, eq-eqb _ _ h)
 
-module _ (z : Size) (s : State) (n : Numbers) {f : ℕ} (e : f ≡ headFault z s.begun s.headcells n) where
-  pub head-refused : (f ≡ 0 → ⊥) → refuse f s ≡ headStep z s n
-  unfolding headStep
-  head-refused h = step-refused e s (headsBy s (headPut z s.headcells n)) h
+module _ (z : Size) (s : State) (n : Numbers) {f : ℕ} (e : f ≡ head_fault z s.begun s.headcells n) where
+  pub head_refused : (f ≡ 0 → ⊥) → refuse f s ≡ head_step z s n
+  unfolding head_step
+  head_refused h = step_refused e s (heads_by s (head_put z s.headcells n)) h
 
-  pub head-taken : f ≡ 0 → {cells : List ℕ} → cells ≡ headPut z s.headcells n → goes (headsBy s cells) ≡ headStep z s n
-  unfolding headStep
-  head-taken h k = ap (λ l. goes (headsBy s l)) k ∙ step-taken e s (headsBy s (headPut z s.headcells n)) h
+  pub head_taken : f ≡ 0 → {cells : List ℕ} → cells ≡ head_put z s.headcells n → goes (heads_by s cells) ≡ head_step z s n
+  unfolding head_step
+  head_taken h k = ap (λ l. goes (heads_by s l)) k ∙ step_taken e s (heads_by s (head_put z s.headcells n)) h
 
-module _ (z : Size) (s : State) (n : Numbers) {f : ℕ} (e : f ≡ tripleFault z s.begun s.triplecells n) where
-  pub triple-refused : (f ≡ 0 → ⊥) → refuse f s ≡ tripleStep z s n
-  unfolding tripleStep
-  triple-refused h = step-refused e s (triplesBy s (triplePut z s.triplecells n)) h
+module _ (z : Size) (s : State) (n : Numbers) {f : ℕ} (e : f ≡ triple_fault z s.begun s.triplecells n) where
+  pub triple_refused : (f ≡ 0 → ⊥) → refuse f s ≡ triple_step z s n
+  unfolding triple_step
+  triple_refused h = step_refused e s (triples_by s (triple_put z s.triplecells n)) h
 
-  pub triple-taken : f ≡ 0 → {cells : List ℕ} → cells ≡ triplePut z s.triplecells n → goes (triplesBy s cells) ≡ tripleStep z s n
-  unfolding tripleStep
-  triple-taken h k = ap (λ l. goes (triplesBy s l)) k ∙ step-taken e s (triplesBy s (triplePut z s.triplecells n)) h
+  pub triple_taken : f ≡ 0 → {cells : List ℕ} → cells ≡ triple_put z s.triplecells n → goes (triples_by s cells) ≡ triple_step z s n
+  unfolding triple_step
+  triple_taken h k = ap (λ l. goes (triples_by s l)) k ∙ step_taken e s (triples_by s (triple_put z s.triplecells n)) h
 
 -- by what the call that ranks the fact leaves in the lent cells
-module _ (z : Size) (t : Tally) (n : Numbers) {cells after : List ℕ} {f : ℕ} (k : Ranked cells after (headFault z t.begun cells n) (headPut z cells n) f) where
-  pub head-unranked : (f ≡ 0 → ⊥) → (ts : List ℕ) → refuse f (whole t after ts) ≡ headStep z (whole t cells ts) n
-  head-unranked h ts = ap (λ l. refuse f (whole t l ts)) (unranked-cells k h) ∙ head-refused z (whole t cells ts) n k.answers h
+module _ (z : Size) (t : Tally) (n : Numbers) {cells after : List ℕ} {f : ℕ} (k : Ranked cells after (head_fault z t.begun cells n) (head_put z cells n) f) where
+  pub head_unranked : (f ≡ 0 → ⊥) → (ts : List ℕ) → refuse f (whole t after ts) ≡ head_step z (whole t cells ts) n
+  head_unranked h ts = ap (λ l. refuse f (whole t l ts)) (unranked_cells k h) ∙ head_refused z (whole t cells ts) n k.answers h
 
-  pub head-ranked : f ≡ 0 → (ts : List ℕ) → goes (headsBy (whole t cells ts) after) ≡ headStep z (whole t cells ts) n
-  head-ranked h ts = head-taken z (whole t cells ts) n k.answers h (ranked-cells k h)
+  pub head_ranked : f ≡ 0 → (ts : List ℕ) → goes (heads_by (whole t cells ts) after) ≡ head_step z (whole t cells ts) n
+  head_ranked h ts = head_taken z (whole t cells ts) n k.answers h (ranked_cells k h)
 
-module _ (z : Size) (t : Tally) (n : Numbers) {cells after : List ℕ} {f : ℕ} (k : Ranked cells after (tripleFault z t.begun cells n) (triplePut z cells n) f) where
-  pub triple-unranked : (f ≡ 0 → ⊥) → (hs : List ℕ) → refuse f (whole t hs after) ≡ tripleStep z (whole t hs cells) n
-  triple-unranked h hs = ap (λ l. refuse f (whole t hs l)) (unranked-cells k h) ∙ triple-refused z (whole t hs cells) n k.answers h
+module _ (z : Size) (t : Tally) (n : Numbers) {cells after : List ℕ} {f : ℕ} (k : Ranked cells after (triple_fault z t.begun cells n) (triple_put z cells n) f) where
+  pub triple_unranked : (f ≡ 0 → ⊥) → (hs : List ℕ) → refuse f (whole t hs after) ≡ triple_step z (whole t hs cells) n
+  triple_unranked h hs = ap (λ l. refuse f (whole t hs l)) (unranked_cells k h) ∙ triple_refused z (whole t hs cells) n k.answers h
 
-  pub triple-ranked : f ≡ 0 → (hs : List ℕ) → goes (triplesBy (whole t hs cells) after) ≡ tripleStep z (whole t hs cells) n
-  triple-ranked h hs = triple-taken z (whole t hs cells) n k.answers h (ranked-cells k h)
+  pub triple_ranked : f ≡ 0 → (hs : List ℕ) → goes (triples_by (whole t hs cells) after) ≡ triple_step z (whole t hs cells) n
+  triple_ranked h hs = triple_taken z (whole t hs cells) n k.answers h (ranked_cells k h)
 
 -- a line counts once at the most, and one that is refused changes nothing
 pub record Fair (s : State) (t : Step) : Type 0 where
@@ -85,45 +85,45 @@ pub record Fair (s : State) (t : Step) : Type 0 where
   pub triples : t.state.triples ≤ s.triples + 1
   pub kept : (t.refusal ≡ 0 → ⊥) → t.state ≡ s
 
-refused-fair : (n : ℕ) (s : State) → Fair s (refuse n s)
-refused-fair n s = record { heads = omega arith; triples = omega arith; kept = λ r. refl }
+refused_fair : (n : ℕ) (s : State) → Fair s (refuse n s)
+refused_fair n s = record { heads = omega arith; triples = omega arith; kept = λ r. refl }
 
-goes-fair : (s next : State) → next.heads ≤ s.heads + 1 → next.triples ≤ s.triples + 1 → Fair s (goes next)
-goes-fair s next h t = record { heads = h; triples = t; kept = λ r. absurd (r refl) }
+goes_fair : (s next : State) → next.heads ≤ s.heads + 1 → next.triples ≤ s.triples + 1 → Fair s (goes next)
+goes_fair s next h t = record { heads = h; triples = t; kept = λ r. absurd (r refl) }
 
 either : (s : State) (t : Bool) (a b : Step) → Fair s a → Fair s b → Fair s (pick t a b)
 either s true a b x y = x
 either s false a b x y = y
 
-unless-fair : (s next : State) (f : ℕ) → Fair s (goes next) → Fair s (unless f s next)
-unless-fair s next f m = either s (eqb f 0) (goes next) (refuse f s) m (refused-fair f s)
+unless_fair : (s next : State) (f : ℕ) → Fair s (goes next) → Fair s (unless f s next)
+unless_fair s next f m = either s (eqb f 0) (goes next) (refuse f s) m (refused_fair f s)
 
-safe-fair : (s : State) (n : Numbers) → Fair s (safeStep s n)
-unfolding safeStep
-safe-fair s n =
-    let header : State = withHeader s (nth n 0) (nth n 1) (nth n 2) in
+safe_fair : (s : State) (n : Numbers) → Fair s (safe_step s n)
+unfolding safe_step
+safe_fair s n =
+    let header : State = with_header s (nth n 0) (nth n 1) (nth n 2) in
     let large : Step = pick (ltb largest (nth n 0)) (refuse 4 s) (goes header) in
     let once : Step = pick (eqb s.begun 0) large (refuse 3 s) in
     either s (eqb n.count 3) once (refuse 2 s)
     (either s (eqb s.begun 0) large (refuse 3 s)
-    (either s (ltb largest (nth n 0)) (refuse 4 s) (goes header) (refused-fair 4 s) (goes-fair s header (omega arith) (omega arith)))
-    (refused-fair 3 s))
-    (refused-fair 2 s)
+    (either s (ltb largest (nth n 0)) (refuse 4 s) (goes header) (refused_fair 4 s) (goes_fair s header (omega arith) (omega arith)))
+    (refused_fair 3 s))
+    (refused_fair 2 s)
 
-head-fair : (z : Size) (s : State) (n : Numbers) → Fair s (headStep z s n)
-unfolding headStep
-head-fair z s n = let next = headsBy s (headPut z s.headcells n) in unless-fair s next (headFault z s.begun s.headcells n) (goes-fair s next (omega arith) (omega arith))
+head_fair : (z : Size) (s : State) (n : Numbers) → Fair s (head_step z s n)
+unfolding head_step
+head_fair z s n = let next = heads_by s (head_put z s.headcells n) in unless_fair s next (head_fault z s.begun s.headcells n) (goes_fair s next (omega arith) (omega arith))
 
-triple-fair : (z : Size) (s : State) (n : Numbers) → Fair s (tripleStep z s n)
-unfolding tripleStep
-triple-fair z s n = let next = triplesBy s (triplePut z s.triplecells n) in unless-fair s next (tripleFault z s.begun s.triplecells n) (goes-fair s next (omega arith) (omega arith))
+triple_fair : (z : Size) (s : State) (n : Numbers) → Fair s (triple_step z s n)
+unfolding triple_step
+triple_fair z s n = let next = triples_by s (triple_put z s.triplecells n) in unless_fair s next (triple_fault z s.begun s.triplecells n) (goes_fair s next (omega arith) (omega arith))
 
-by-fair : (z : Size) (s : State) (w : Word) (n : Numbers) → Fair s (stepBy z s w n)
-by-fair z s Safe n = safe-fair s n
-by-fair z s Head n = head-fair z s n
-by-fair z s Erase n = triple-fair z s n
-by-fair z s Unknown n = refused-fair 2 s
+by_fair : (z : Size) (s : State) (w : Word) (n : Numbers) → Fair s (step_by z s w n)
+by_fair z s Safe n = safe_fair s n
+by_fair z s Head n = head_fair z s n
+by_fair z s Erase n = triple_fair z s n
+by_fair z s Unknown n = refused_fair 2 s
 
-pub step-fair : (z : Size) (s : State) (l : Line) → Fair s (step_of z s l)
+pub step_fair : (z : Size) (s : State) (l : Line) → Fair s (step_of z s l)
 unfolding step_of
-step-fair z s l = by-fair z s l.word l.numbers
+step_fair z s l = by_fair z s l.word l.numbers

@@ -3,7 +3,7 @@ use Rattle.std.specs.Prelude.{List, [], ◌∷◌, ℕ, ◌+◌, eqb, ltb, lengt
 use Rattle.text.specs.Split.{pick, first, later, split}
 use Rattle.product.specs.Table.{absent}
 use Rattle.table.specs.declared.Size.{Size}
-use Rattle.ranking.specs.Rank.{largest, headFault, headPut, tripleFault, triplePut}
+use Rattle.ranking.specs.Rank.{largest, head_fault, head_put, triple_fault, triple_put}
 use Rattle.numbers.specs.Number.{nth}
 use Rattle.numbers.specs.declared.Numbers.{Numbers}
 use Rattle.listingline.specs.Line.{line_of}
@@ -13,8 +13,8 @@ use Rattle.listingline.specs.declared.Word.TheVariants.{Safe, Head, Erase, Unkno
 use Rattle.rows.specs.State.{State, Step, Ended, before}
 
 -- before the first line no fact has a rank
-unfoldable pub startState : State
-startState = before (replicate 256 absent) (replicate 2048 absent)
+unfoldable pub start_state : State
+start_state = before (replicate 256 absent) (replicate 2048 absent)
 
 -- a line that is refused changes nothing
 abbrev pub refuse : ℕ → State → Step
@@ -24,8 +24,8 @@ abbrev pub goes : State → Step
 goes s = record { refusal = 0; state = s }
 
 -- the state with its header; with one head or one triple more
-abbrev pub withHeader : State → (rounds heads triples : ℕ) → State
-withHeader s a b c = record {
+abbrev pub with_header : State → (rounds heads triples : ℕ) → State
+with_header s a b c = record {
   begun = 1;
   rounds = a;
   headcount = b;
@@ -36,8 +36,8 @@ withHeader s a b c = record {
   triplecells = s.triplecells;
 }
 
-abbrev pub headsBy : State → (cells : List ℕ) → State
-headsBy s cells = record {
+abbrev pub heads_by : State → (cells : List ℕ) → State
+heads_by s cells = record {
   begun = s.begun;
   rounds = s.rounds;
   headcount = s.headcount;
@@ -48,8 +48,8 @@ headsBy s cells = record {
   triplecells = s.triplecells;
 }
 
-abbrev pub triplesBy : State → (cells : List ℕ) → State
-triplesBy s cells = record {
+abbrev pub triples_by : State → (cells : List ℕ) → State
+triples_by s cells = record {
   begun = s.begun;
   rounds = s.rounds;
   headcount = s.headcount;
@@ -61,11 +61,11 @@ triplesBy s cells = record {
 }
 
 -- `safe` rounds heads triples: its count of numbers, then once, then the rounds in range
-unfoldable pub safeStep : State → Numbers → Step
-safeStep s n =
+unfoldable pub safe_step : State → Numbers → Step
+safe_step s n =
     pick (eqb n.count 3)
     (pick (eqb s.begun 0)
-    (pick (ltb largest (nth n 0)) (refuse 4 s) (goes (withHeader s (nth n 0) (nth n 1) (nth n 2))))
+    (pick (ltb largest (nth n 0)) (refuse 4 s) (goes (with_header s (nth n 0) (nth n 1) (nth n 2))))
     (refuse 3 s))
     (refuse 2 s)
 
@@ -74,22 +74,22 @@ abbrev pub unless : ℕ → State → State → Step
 unless fault s next = pick (eqb fault 0) (goes next) (refuse fault s)
 
 -- `head` state symbol rank
-unfoldable pub headStep : Size → State → Numbers → Step
-headStep z s n = unless (headFault z s.begun s.headcells n) s (headsBy s (headPut z s.headcells n))
+unfoldable pub head_step : Size → State → Numbers → Step
+head_step z s n = unless (head_fault z s.begun s.headcells n) s (heads_by s (head_put z s.headcells n))
 
 -- `erase` state symbol endstate rank
-unfoldable pub tripleStep : Size → State → Numbers → Step
-tripleStep z s n = unless (tripleFault z s.begun s.triplecells n) s (triplesBy s (triplePut z s.triplecells n))
+unfoldable pub triple_step : Size → State → Numbers → Step
+triple_step z s n = unless (triple_fault z s.begun s.triplecells n) s (triples_by s (triple_put z s.triplecells n))
 
 -- what a line does, by its word and its numbers
-abbrev pub stepBy : Size → State → Word → Numbers → Step
-stepBy z s Safe n = safeStep s n
-stepBy z s Head n = headStep z s n
-stepBy z s Erase n = tripleStep z s n
-stepBy z s Unknown n = refuse 2 s
+abbrev pub step_by : Size → State → Word → Numbers → Step
+step_by z s Safe n = safe_step s n
+step_by z s Head n = head_step z s n
+step_by z s Erase n = triple_step z s n
+step_by z s Unknown n = refuse 2 s
 
 unfoldable pub step_of : Size → State → Line → Step
-step_of z s l = stepBy z s l.word l.numbers
+step_of z s l = step_by z s l.word l.numbers
 
 -- the reading has ended: refused with a number and a line, or 0 and 0
 abbrev pub ends : ℕ → ℕ → State → Ended
@@ -104,21 +104,21 @@ abbrev pub finished : State → Ended
 finished s = ends (agreement s.begun s.heads s.headcount s.triples s.triplecount) 0 s
 
 -- line n, which is l, and those after it: what stands behind the last line feed is no line, and must be empty
-unfoldable pub readFrom : Size → ℕ → State → List ℕ → List (List ℕ) → Ended
-readFrom z n s l [] = pick (ltb 0 (length l)) (ends 2 n s) (finished s)
-readFrom z n s l (k ∷ ls) =
+unfoldable pub read_from : Size → ℕ → State → List ℕ → List (List ℕ) → Ended
+read_from z n s l [] = pick (ltb 0 (length l)) (ends 2 n s) (finished s)
+read_from z n s l (k ∷ ls) =
     pick (eqb (step_of z s (line_of (split 9 l))).refusal 0)
-    (readFrom z (n + 1) (step_of z s (line_of (split 9 l))).state k ls)
+    (read_from z (n + 1) (step_of z s (line_of (split 9 l))).state k ls)
     (ends (step_of z s (line_of (split 9 l))).refusal n s)
 
 -- the lines of a text, from line n on
-abbrev pub readLines : Size → ℕ → State → List ℕ → Ended
-readLines z n s text = readFrom z n s (first 10 text) (later 10 text)
+abbrev pub read_lines : Size → ℕ → State → List ℕ → Ended
+read_lines z n s text = read_from z n s (first 10 text) (later 10 text)
 
 -- the most bytes of a listing
 abbrev pub longest : ℕ
 longest = 45056
 
 -- a whole text from its first line on, unless it is too long
-abbrev pub readText : Size → State → List ℕ → Ended
-readText z s text = pick (ltb longest (length text)) (ends 1 0 s) (readLines z 1 s text)
+abbrev pub read_text : Size → State → List ℕ → Ended
+read_text z s text = pick (ltb longest (length text)) (ends 1 0 s) (read_lines z 1 s text)

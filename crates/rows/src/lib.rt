@@ -1,6 +1,6 @@
 // What the lines of a listing do, one after another: they collect a table.
 ghost use Rattle.std.specs.Prelude.{◌≡◌, ℕ, ◌≤◌, length, List};
-ghost use Rattle.rows.specs.Lines.{safeStep, headStep, tripleStep, step_of, agreement, finished, readLines, readText};
+ghost use Rattle.rows.specs.Lines.{safe_step, head_step, triple_step, step_of, agreement, finished, read_lines, read_text};
 ghost use Rattle.rows.specs.State.{nothing, whole, before, stepped, ended, Counted};
 
 use listingline::{Line, Word};
@@ -54,7 +54,7 @@ fn nothing() -> Tally
 
 // The header.
 fn take_safe(t: Tally, n: Numbers) -> Tallied
-    ensures { (hs ts : List ℕ) → stepped result hs ts ≡ safeStep (whole t hs ts) n }
+    ensures { (hs ts : List ℕ) → stepped result hs ts ≡ safe_step (whole t hs ts) n }
 {
     if n.count != 3 {
         return Tallied {
@@ -90,7 +90,7 @@ fn take_safe(t: Tally, n: Numbers) -> Tallied
 // A head's line.
 fn take_head(heads: &mut [u16], size: Size, t: Tally, n: Numbers) -> Tallied
     requires { Counted t }
-    ensures { (ts : List ℕ) → stepped result heads.new ts ≡ headStep size (whole t heads.old ts) n }
+    ensures { (ts : List ℕ) → stepped result heads.new ts ≡ head_step size (whole t heads.old ts) n }
 {
     let refusal = ranking::rank_head(heads, size, t.begun, n);
     if refusal != 0 {
@@ -107,7 +107,7 @@ fn take_head(heads: &mut [u16], size: Size, t: Tally, n: Numbers) -> Tallied
 // A triple's line.
 fn take_triple(triples: &mut [u16], size: Size, t: Tally, n: Numbers) -> Tallied
     requires { Counted t }
-    ensures { (hs : List ℕ) → stepped result hs triples.new ≡ tripleStep size (whole t hs triples.old) n }
+    ensures { (hs : List ℕ) → stepped result hs triples.new ≡ triple_step size (whole t hs triples.old) n }
 {
     let refusal = ranking::rank_triple(triples, size, t.begun, n);
     if refusal != 0 {
@@ -170,7 +170,7 @@ fn finish(t: Tally) -> End
 // The lines of a text, one after another; the first that is refused ends the reading.
 fn read_lines(heads: &mut [u16], triples: &mut [u16], size: Size, text: &[u8]) -> End
     requires { length text.now ≤ 45056 }
-    ensures { ended result heads.new triples.new ≡ readLines size 1 (before heads.old triples.old) text.now }
+    ensures { ended result heads.new triples.new ≡ read_lines size 1 (before heads.old triples.old) text.now }
 {
     let mut t = nothing();
     let mut rest = text;
@@ -205,7 +205,7 @@ fn read_lines(heads: &mut [u16], triples: &mut [u16], size: Size, text: &[u8]) -
 
 // A whole text, unless it is too long; its ranks come to those in the two lent arrays.
 pub fn read_text(heads: &mut [u16], triples: &mut [u16], size: Size, text: &[u8]) -> End
-    ensures { ended result heads.new triples.new ≡ readText size (before heads.old triples.old) text.now }
+    ensures { ended result heads.new triples.new ≡ read_text size (before heads.old triples.old) text.now }
 {
     if LONGEST < text.len() {
         return End {

@@ -10,16 +10,16 @@ use lib.Dec.{eqb, ltb}
 use borrow.Author.Tests.{ltb-true, ltb-false, eqb-true, eqb-false, eq-eqb, ne_eqb}
 use lib.Seq.{get_or-take, get_or-drop, length-take-le}
 use lib.ListN.{length, get_or, take, drop, drop_of_length-le, length-drop}
-use Rattle.text.specs.Split.{pick, sameBytes}
-use Rattle.text.proofs.Lists.{next, tail-part}
-use Rattle.text.proofs.Bytes.{same-equal}
+use Rattle.text.specs.Split.{pick, same_bytes}
+use Rattle.text.proofs.Lists.{next, tail_part}
+use Rattle.text.proofs.Bytes.{same_equal}
 use Rattle.listingline.specs.Line.{safe}
-use Rattle.splitter.specs.Part.{startsSafe, placeFrom, place, listingOf, modelPart}
-use Rattle.splitter.specs.Search.{safeBehind, safeAt, letterOf}
+use Rattle.splitter.specs.Part.{starts_safe, place_from, place, listing_of, model_part}
+use Rattle.splitter.specs.Search.{safe_behind, safe_at, letter_of}
 
 -- a text of fewer than four bytes does not start with it
-pub too_short : (s : List ℕ) → length s < 4 → false ≡ startsSafe s
-unfolding sameBytes
+pub too_short : (s : List ℕ) → length s < 4 → false ≡ starts_safe s
+unfolding same_bytes
 too_short [] h = refl
 too_short (a ∷ []) h = go (eqb a 115)
   where
@@ -42,53 +42,53 @@ too_short (a ∷ b ∷ c ∷ []) h = go (eqb a 115) (eqb b 97) (eqb c 102)
 too_short (a ∷ b ∷ c ∷ d ∷ s) h = absurd (omega arith)
 
 -- a line that starts with the word stands where the word stands
-not_there : (s : List ℕ) (i : ℕ) → startsSafe (drop i s) ≡ false → safeAt s i ≡ false
+not_there : (s : List ℕ) (i : ℕ) → starts_safe (drop i s) ≡ false → safe_at s i ≡ false
 not_there s i e = rw e (go (eqb (get_or (10 ∷ s) i 0) 10))
   where
     go : (t : Bool) → (t && false) ≡ false
     go true = refl
     go false = refl
 
-there : (s : List ℕ) (i : ℕ) → safeAt s i ≡ true → startsSafe (drop i s) ≡ true
-there s i e = go (startsSafe (drop i s)) refl
+there : (s : List ℕ) (i : ℕ) → safe_at s i ≡ true → starts_safe (drop i s) ≡ true
+there s i e = go (starts_safe (drop i s)) refl
   where
-    go : (t : Bool) → startsSafe (drop i s) ≡ t → t ≡ true
+    go : (t : Bool) → starts_safe (drop i s) ≡ t → t ≡ true
     go true f = refl
     go false f = sym (not_there s i f) ∙ e
 
 -- a line begins at the start of a text, and behind a line feed
 module _ (s : List ℕ) where
-  pub safe-first : (i : ℕ) → i ≡ 0 → startsSafe s ≡ safeAt s i
-  safe-first i e = rw e refl
+  pub safe_first : (i : ℕ) → i ≡ 0 → starts_safe s ≡ safe_at s i
+  safe_first i e = rw e refl
 
-  pub safe-inside : (i : ℕ) → (i ≡ 0 → ⊥) → (get_or s (i - 1) 0 ≡ 10 → ⊥) → false ≡ safeAt s i
-  safe-inside zero z n = absurd (z refl)
-  safe-inside (suc i) z n = let e : suc i - 1 ≡ i = omega arith in rw (ne_eqb (get_or s i 0) 10 (rw e at n))
+  pub safe_inside : (i : ℕ) → (i ≡ 0 → ⊥) → (get_or s (i - 1) 0 ≡ 10 → ⊥) → false ≡ safe_at s i
+  safe_inside zero z n = absurd (z refl)
+  safe_inside (suc i) z n = let e : suc i - 1 ≡ i = omega arith in rw (ne_eqb (get_or s i 0) 10 (rw e at n))
 
-  pub safe-behind : (i : ℕ) → (i ≡ 0 → ⊥) → get_or s (i - 1) 0 ≡ 10 → startsSafe (take (length s - i) (drop i s)) ≡ safeAt s i
-  safe-behind zero z n = absurd (z refl)
-  safe-behind (suc i) z n = let e : suc i - 1 ≡ i = omega arith in rw (eq-eqb (get_or s i 0) 10 (rw e at n)) (ap startsSafe (tail-part s (suc i)))
+  pub safe_behind_lem : (i : ℕ) → (i ≡ 0 → ⊥) → get_or s (i - 1) 0 ≡ 10 → starts_safe (take (length s - i) (drop i s)) ≡ safe_at s i
+  safe_behind_lem zero z n = absurd (z refl)
+  safe_behind_lem (suc i) z n = let e : suc i - 1 ≡ i = omega arith in rw (eq-eqb (get_or s i 0) 10 (rw e at n)) (ap starts_safe (tail_part s (suc i)))
 
 -- where no place before n is that of the listing, the search goes on at n
-skip : (c : ℕ) (s : List ℕ) (n : ℕ) → n ≤ length s → ((i : ℕ) → i < n → safeBehind c s i ≡ false)
-    → placeFrom (eqb c 10) s ≡ n + placeFrom (eqb (get_or (c ∷ s) n 0) 10) (drop n s)
-unfolding placeFrom
+skip : (c : ℕ) (s : List ℕ) (n : ℕ) → n ≤ length s → ((i : ℕ) → i < n → safe_behind c s i ≡ false)
+    → place_from (eqb c 10) s ≡ n + place_from (eqb (get_or (c ∷ s) n 0) 10) (drop n s)
+unfolding place_from
 skip c s zero h none = omega arith
 skip c [] (suc n) h none = absurd (omega arith)
 skip c (b ∷ s) (suc n) h none =
-    let e : safeBehind c (b ∷ s) 0 ≡ false = none 0 (omega arith) in
+    let e : safe_behind c (b ∷ s) 0 ≡ false = none 0 (omega arith) in
     let more = skip b s n (omega arith) (λ i k. none (suc i) (omega arith)) in
     rw e (ap suc more ∙ omega arith)
 
 -- as the code sees it: none before k is the place
-module _ (s : List ℕ) (k : ℕ) (none : (i : ℕ) → i < k → safeAt s i ≡ false) where
-  pub place_here : k < length s → safeAt s k ≡ true → k ≡ place s
-  unfolding placeFrom
+module _ (s : List ℕ) (k : ℕ) (none : (i : ℕ) → i < k → safe_at s i ≡ false) where
+  pub place_here : k < length s → safe_at s k ≡ true → k ≡ place s
+  unfolding place_from
   place_here h e =
-      let z : placeFrom (eqb (get_or (10 ∷ s) k 0) 10) (drop k s) ≡ 0 = let n = next s k h in rw n (rw (rw n at e)) in
+      let z : place_from (eqb (get_or (10 ∷ s) k 0) 10) (drop k s) ≡ 0 = let n = next s k h in rw n (rw (rw n at e)) in
       omega (arith, skip 10 s k (omega arith) none)
 
-letters : (j : ℕ) → j < 4 → letterOf (get_or safe j 0) ≡ j
+letters : (j : ℕ) → j < 4 → letter_of (get_or safe j 0) ≡ j
 letters zero h = refl
 letters (suc zero) h = refl
 letters (suc (suc zero)) h = refl
@@ -96,74 +96,74 @@ letters (suc (suc (suc zero))) h = refl
 letters (suc (suc (suc (suc j)))) h = absurd (omega arith)
 
 -- where the word stands, each byte says which letter it is
-word-letter : (s : List ℕ) (i j : ℕ) → j < 4 → startsSafe (drop i s) ≡ true → letterOf (get_or s (i + j) 0) ≡ j
-word-letter s i j h e =
-    let q : get_or s (i + j) 0 ≡ get_or safe j 0 = sym (get_or-drop i s j 0) ∙ sym (get_or-take 4 (drop i s) j 0 h) ∙ ap (λ l. get_or l j 0) (same-equal _ _ e) in
-    ap letterOf q ∙ letters j h
+word_letter : (s : List ℕ) (i j : ℕ) → j < 4 → starts_safe (drop i s) ≡ true → letter_of (get_or s (i + j) 0) ≡ j
+word_letter s i j h e =
+    let q : get_or s (i + j) 0 ≡ get_or safe j 0 = sym (get_or-drop i s j 0) ∙ sym (get_or-take 4 (drop i s) j 0 h) ∙ ap (λ l. get_or l j 0) (same_equal _ _ e) in
+    ap letter_of q ∙ letters j h
 
 -- four places in a row, of which `last` is the last: none before them is the listing's
-module _ (s : List ℕ) (last : ℕ) (none : (i : ℕ) → i + 3 < last → safeAt s i ≡ false) where
+module _ (s : List ℕ) (last : ℕ) (none : (i : ℕ) → i + 3 < last → safe_at s i ≡ false) where
   -- where the text ends, four bytes do not fit
   pub place_none : length s ≤ last → length s ≡ place s
-  unfolding placeFrom
+  unfolding place_from
   place_none t =
-      let z : placeFrom (eqb (get_or (10 ∷ s) (length s) 0) 10) (drop (length s) s) ≡ 0 = rw (drop_of_length-le s (le_refl (length s))) in
+      let z : place_from (eqb (get_or (10 ∷ s) (length s) 0) 10) (drop (length s) s) ≡ 0 = rw (drop_of_length-le s (le_refl (length s))) in
       omega (arith, skip 10 s (length s) (le_refl _) all)
     where
-      all : (i : ℕ) → i < length s → safeAt s i ≡ false
+      all : (i : ℕ) → i < length s → safe_at s i ≡ false
       all i h = go (ltb (i + 3) last) refl
         where
-          go : (b : Bool) → ltb (i + 3) last ≡ b → safeAt s i ≡ false
+          go : (b : Bool) → ltb (i + 3) last ≡ b → safe_at s i ≡ false
           go true e = none i (ltb-true (i + 3) last e)
           go false e = not_there s i (sym (too_short (drop i s) (omega (arith, ltb-false (i + 3) last e, length-drop i s))))
 
   -- and else only the one that the letter at the last says can be
-  module _ (letter : ℕ) (l : letter ≡ letterOf (get_or s last 0)) where
-    pub none-but : (i : ℕ) → i ≤ last → (i + letter ≡ last → ⊥) → safeAt s i ≡ false
-    none-but i h other = go (ltb (i + 3) last) refl (safeAt s i) refl
+  module _ (letter : ℕ) (l : letter ≡ letter_of (get_or s last 0)) where
+    pub none_but : (i : ℕ) → i ≤ last → (i + letter ≡ last → ⊥) → safe_at s i ≡ false
+    none_but i h other = go (ltb (i + 3) last) refl (safe_at s i) refl
       where
-        go : (b : Bool) → ltb (i + 3) last ≡ b → (t : Bool) → safeAt s i ≡ t → t ≡ false
+        go : (b : Bool) → ltb (i + 3) last ≡ b → (t : Bool) → safe_at s i ≡ t → t ≡ false
         go b e false f = refl
         go true e true f = sym f ∙ none i (ltb-true (i + 3) last e)
         go false e true f =
-            let w = word-letter s i (last - i) (omega (arith, ltb-false (i + 3) last e)) (there s i f) in
+            let w = word_letter s i (last - i) (omega (arith, ltb-false (i + 3) last e)) (there s i f) in
             let p : i + (last - i) ≡ last = omega arith in
-            absurd (other (omega (arith, l, ap (λ n. letterOf (get_or s n 0)) p, w)))
+            absurd (other (omega (arith, l, ap (λ n. letter_of (get_or s n 0)) p, w)))
 
-    pub four-passed : (4 ≤ letter) ⊎ ((letter ≤ last) × (safeAt s (last - letter) ≡ false)) → (i : ℕ) → i + 3 < last + 4 → safeAt s i ≡ false
-    four-passed (inl n) i h = go (ltb (i + 3) last) refl
+    pub four_passed : (4 ≤ letter) ⊎ ((letter ≤ last) × (safe_at s (last - letter) ≡ false)) → (i : ℕ) → i + 3 < last + 4 → safe_at s i ≡ false
+    four_passed (inl n) i h = go (ltb (i + 3) last) refl
       where
-        go : (b : Bool) → ltb (i + 3) last ≡ b → safeAt s i ≡ false
+        go : (b : Bool) → ltb (i + 3) last ≡ b → safe_at s i ≡ false
         go true e = none i (ltb-true (i + 3) last e)
-        go false e = none-but i (omega arith) (λ k. omega (arith, ltb-false (i + 3) last e))
-    four-passed (inr (w, n)) i h = go (eqb (i + letter) last) refl
+        go false e = none_but i (omega arith) (λ k. omega (arith, ltb-false (i + 3) last e))
+    four_passed (inr (w, n)) i h = go (eqb (i + letter) last) refl
       where
-        go : (b : Bool) → eqb (i + letter) last ≡ b → safeAt s i ≡ false
+        go : (b : Bool) → eqb (i + letter) last ≡ b → safe_at s i ≡ false
         go true e = let p : last - letter ≡ i = omega (arith, eqb-true (i + letter) last e) in rw p at n
-        go false e = none-but i (omega arith) (eqb-false (i + letter) last e)
+        go false e = none_but i (omega arith) (eqb-false (i + letter) last e)
 
 -- the place lies within the text
-within : (begins : Bool) (s : List ℕ) → placeFrom begins s ≤ length s
-unfolding placeFrom
+within : (begins : Bool) (s : List ℕ) → place_from begins s ≤ length s
+unfolding place_from
 within begins [] = zero-le
-within begins (b ∷ bs) = go (begins && startsSafe (b ∷ bs)) (within (eqb b 10) bs)
+within begins (b ∷ bs) = go (begins && starts_safe (b ∷ bs)) (within (eqb b 10) bs)
   where
-    go : (t : Bool) → placeFrom (eqb b 10) bs ≤ length bs → pick t 0 (suc (placeFrom (eqb b 10) bs)) ≤ suc (length bs)
+    go : (t : Bool) → place_from (eqb b 10) bs ≤ length bs → pick t 0 (suc (place_from (eqb b 10) bs)) ≤ suc (length bs)
     go true h = zero-le
     go false h = suc-le-suc h
 
 -- the two parts by the place, as the code takes them
 module _ (s : List ℕ) {k : ℕ} (e : k ≡ place s) where
-  pub place-within : k ≤ length s
-  place-within = rw e (within true s)
+  pub place_within : k ≤ length s
+  place_within = rw e (within true s)
 
   -- `s[..k]`
-  pub model-front : take k s ≡ modelPart s
-  model-front = ap (λ k. take k s) e
+  pub model_front : take k s ≡ model_part s
+  model_front = ap (λ k. take k s) e
 
-  pub model-length : k ≡ length (take k s)
-  model-length = sym (length-take-le k s place-within)
+  pub model_length : k ≡ length (take k s)
+  model_length = sym (length-take-le k s place_within)
 
   -- `s[k..]`
-  pub listing-rest : take (length s - k) (drop k s) ≡ listingOf s
-  listing-rest = tail-part s k ∙ ap (λ k. drop k s) e
+  pub listing_rest : take (length s - k) (drop k s) ≡ listing_of s
+  listing_rest = tail_part s k ∙ ap (λ k. drop k s) e

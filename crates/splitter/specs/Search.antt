@@ -1,16 +1,16 @@
 -- What the search for the listing asks at a place: whether a line begins there that starts with `safe`, and which letter of it a byte is. Assumes nothing.
 use Rattle.std.specs.Prelude.{Bool, ◌&&◌, List, ◌∷◌, ℕ, eqb, get_or, drop}
 use Rattle.text.specs.Split.{pick}
-use Rattle.splitter.specs.Part.{startsSafe}
+use Rattle.splitter.specs.Part.{starts_safe}
 
 -- at place i of s, before which the byte c stands: the byte before is a line feed, and the part from there starts with the word
-abbrev pub safeBehind : (c : ℕ) → List ℕ → ℕ → Bool
-safeBehind c s i = eqb (get_or (c ∷ s) i 0) 10 && startsSafe (drop i s)
+abbrev pub safe_behind : (c : ℕ) → List ℕ → ℕ → Bool
+safe_behind c s i = eqb (get_or (c ∷ s) i 0) 10 && starts_safe (drop i s)
 
 -- a text begins with a line, as behind a line feed
-abbrev pub safeAt : List ℕ → ℕ → Bool
-safeAt s i = safeBehind 10 s i
+abbrev pub safe_at : List ℕ → ℕ → Bool
+safe_at s i = safe_behind 10 s i
 
 -- 0 to 3 for the letters of `safe`, and 4 for any other byte
-abbrev pub letterOf : ℕ → ℕ
-letterOf b = pick (eqb b 115) 0 (pick (eqb b 97) 1 (pick (eqb b 102) 2 (pick (eqb b 101) 3 4)))
+abbrev pub letter_of : ℕ → ℕ
+letter_of b = pick (eqb b 115) 0 (pick (eqb b 97) 1 (pick (eqb b 102) 2 (pick (eqb b 101) 3 4)))

@@ -1,11 +1,11 @@
 // The two parts of one text: a model, and behind it a listing from the first line that starts with `safe`.
 ghost use Rattle.std.specs.Prelude.{◌≡◌, ◌<◌, length};
-ghost use Rattle.splitter.specs.Part.{startsSafe, place, listingOf, modelPart};
-ghost use Rattle.splitter.specs.Search.{letterOf, safeAt};
+ghost use Rattle.splitter.specs.Part.{starts_safe, place, listing_of, model_part};
+ghost use Rattle.splitter.specs.Search.{letter_of, safe_at};
 
 // Whether the first four bytes of s are `safe`.
 fn starts_safe(s: &[u8]) -> bool
-    ensures { result ≡ startsSafe s.now }
+    ensures { result ≡ starts_safe s.now }
 {
     if s.len() < 4 {
         return false;
@@ -16,7 +16,7 @@ fn starts_safe(s: &[u8]) -> bool
 // Whether a line begins at `at` that starts with `safe`.
 fn safe_at(text: &[u8], at: usize) -> bool
     requires { at < length text.now }
-    ensures { result ≡ safeAt text.now at }
+    ensures { result ≡ safe_at text.now at }
 {
     if at == 0 {
         return starts_safe(text);
@@ -29,7 +29,7 @@ fn safe_at(text: &[u8], at: usize) -> bool
 
 // Which letter of `safe` b is, or 4 where it is none.
 fn letter_of(b: u8) -> usize
-    ensures { result ≡ letterOf b }
+    ensures { result ≡ letter_of b }
 {
     if b == b's' {
         return 0;
@@ -68,7 +68,7 @@ pub fn listing_at(text: &[u8]) -> usize
 
 // The listing: the part of the lent text from that line, or nothing.
 pub fn listing_of(text: &[u8]) -> &[u8]
-    ensures { result.now ≡ listingOf text.now }
+    ensures { result.now ≡ listing_of text.now }
 {
     let at = listing_at(text);
     &text[at..]
@@ -76,7 +76,7 @@ pub fn listing_of(text: &[u8]) -> &[u8]
 
 // What stands before the listing: the text that the model is read from.
 pub fn model_part(text: &[u8]) -> &[u8]
-    ensures { result.now ≡ modelPart text.now }
+    ensures { result.now ≡ model_part text.now }
 {
     let at = listing_at(text);
     &text[..at]

@@ -9,15 +9,15 @@ use Rattle.model.specs.Model.{move}
 use Rattle.steps.specs.Steps.{matrix}
 
 -- the move v leads by e from q to q'
-abbrev pub moveBy : Model → (e v q q' : ℕ) → Bool
-moveBy m e v q q' = eqb (move m v).event e && (eqb (move m v).source q && eqb (move m v).target q')
+abbrev pub move_by : Model → (e v q q' : ℕ) → Bool
+move_by m e v q q' = eqb (move m v).event e && (eqb (move m v).source q && eqb (move m v).target q')
 
-unfoldable pub eventSteps : Model → (moves : ℕ) → List ℕ
-eventSteps m moves = each (up_to 16) (λ e. matrix (λ q q'. some (min moves 128) (λ v. moveBy m e v q q')))
+unfoldable pub event_steps : Model → (moves : ℕ) → List ℕ
+event_steps m moves = each (up_to 16) (λ e. matrix (λ q q'. some (min moves 128) (λ v. move_by m e v q q')))
 
 -- with one move more, where its numbers have a place
-unfoldable pub withMove : List ℕ → (q e x : ℕ) → List ℕ
-withMove on q e x = cond (ltb q 8 && ltb x 8 && ltb e 16) (set on e (bit_or (get_or on e 0) (2 ^ (q * 8 + x)))) on
+unfoldable pub with_move : List ℕ → (q e x : ℕ) → List ℕ
+with_move on q e x = cond (ltb q 8 && ltb x 8 && ltb e 16) (set on e (bit_or (get_or on e 0) (2 ^ (q * 8 + x)))) on
 
 -- n truths from number `at` on, in a word: byte k is 1 or 0
 unfoldable pub marks : (shows : List Bool) → (at n : ℕ) → ℕ

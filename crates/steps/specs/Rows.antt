@@ -11,27 +11,27 @@ kind_at cells r = cond (ltb r 256) (get_or cells (4 * r) 0) 0
 unfoldable pub class_at : List ℕ → ℕ → ℕ
 class_at cells r = cond (ltb r 256) (get_or cells (4 * r + 1) 0) 0
 
-unfoldable pub overAt : List ℕ → ℕ → ℕ
-overAt cells r = cond (ltb r 256) (get_or cells (4 * r + 2) 0 % 32) 0
+unfoldable pub over_at : List ℕ → ℕ → ℕ
+over_at cells r = cond (ltb r 256) (get_or cells (4 * r + 2) 0 % 32) 0
 
-unfoldable pub underAt : List ℕ → ℕ → ℕ
-underAt cells r = cond (ltb r 256) (get_or cells (4 * r + 3) 0 % 32) 0
+unfoldable pub under_at : List ℕ → ℕ → ℕ
+under_at cells r = cond (ltb r 256) (get_or cells (4 * r + 3) 0 % 32) 0
 
 -- the numbers of rule r were read
 pub record RowAt (cells : List ℕ) (r : ℕ) (row : Row) : Type 0 where
-  pub kind-is : row.kind ≡ kind_at cells r
-  pub class-is : row.class ≡ class_at cells r
-  pub over-is : row.over ≡ overAt cells r
-  pub under-is : row.under ≡ underAt cells r
-  pub class-in : row.class < 256
-  pub over-in : row.over < 32
-  pub under-in : row.under < 32
+  pub kind_is : row.kind ≡ kind_at cells r
+  pub class_is : row.class ≡ class_at cells r
+  pub over_is : row.over ≡ over_at cells r
+  pub under_is : row.under ≡ under_at cells r
+  pub class_in : row.class < 256
+  pub over_in : row.over < 32
+  pub under_in : row.under < 32
 
 -- the rule that they say
-abbrev pub ruleBy : (kind g g1 g2 : ℕ) → Rule
-ruleBy zero g g1 g2 = exit g
-ruleBy (suc zero) g g1 g2 = direct g g1
-ruleBy (suc (suc k)) g g1 g2 = call g g1 g2
+abbrev pub rule_by : (kind g g1 g2 : ℕ) → Rule
+rule_by zero g g1 g2 = exit g
+rule_by (suc zero) g g1 g2 = direct g g1
+rule_by (suc (suc k)) g g1 g2 = call g g1 g2
 
-abbrev pub rowRule : List ℕ → ℕ → Rule
-rowRule cells r = ruleBy (kind_at cells r) (symbol_of (class_at cells r)) (overAt cells r) (underAt cells r)
+abbrev pub row_rule : List ℕ → ℕ → Rule
+row_rule cells r = rule_by (kind_at cells r) (symbol_of (class_at cells r)) (over_at cells r) (under_at cells r)

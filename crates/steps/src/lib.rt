@@ -3,11 +3,11 @@
 ghost use Rattle.std.specs.Prelude.{◌&&◌, ◌||◌, ◌≡◌, ℕ, ◌+◌, ◌*◌, ◌%◌, ◌^◌, ◌<◌, ◌≤◌, min, get_or};
 ghost use Rattle.bits.specs.Bit.{bit};
 ghost use Rattle.bits.specs.Matrix.{some};
-ghost use Rattle.lent.specs.Lending.{modelIn};
+ghost use Rattle.lent.specs.Lending.{model_in};
 ghost use Rattle.model.specs.Model.{shown};
-ghost use Rattle.steps.specs.Events.{eventSteps, withMove, marks, marked};
+ghost use Rattle.steps.specs.Events.{event_steps, with_move, marks, marked};
 ghost use Rattle.steps.specs.Rows.{RowAt};
-ghost use Rattle.steps.specs.Steps.{class_of, symbol_of, classSteps, statesAfter};
+ghost use Rattle.steps.specs.Steps.{class_of, symbol_of, class_steps, states_after};
 
 use lent::Lent;
 
@@ -46,7 +46,7 @@ fn at_most(n: usize, most: usize) -> usize
 
 // Enters a move from q by e to x into the matrix of its event; one whose numbers have no place there is let be.
 fn put_move(on: &mut [u64; 16], q: u64, e: usize, x: u64)
-    ensures { on.new ≡ withMove on.old q e x }
+    ensures { on.new ≡ with_move on.old q e x }
 {
     if 8 <= q {
         return;
@@ -62,7 +62,7 @@ fn put_move(on: &mut [u64; 16], q: u64, e: usize, x: u64)
 
 // For each event the matrix of its moves.
 fn by_event(m: &Lent, moves: usize) -> [u64; 16]
-    ensures { result ≡ eventSteps (modelIn m.now) moves }
+    ensures { result ≡ event_steps (model_in m.now) moves }
 {
     let mut on = [0u64; 16];
     let n = at_most(moves, 128);
@@ -87,7 +87,7 @@ fn placed(b: u8, k: usize) -> u64
 // The eight truths from number `at` on, a byte each: as they lie in memory, so that the compiler reads them at once.
 fn eight(m: &Lent, at: usize) -> u64
     requires { at + 8 ≤ 512 }
-    ensures { result ≡ marks (modelIn m.now).shows at 8 }
+    ensures { result ≡ marks (model_in m.now).shows at 8 }
 {
     let mut w: u64 = 0;
     let mut k: usize = 0;
@@ -116,7 +116,7 @@ fn join(on: &[u64; 16], from: usize, w: u64, m: u64) -> u64
 // The matrix of symbol g: those of the events that it shows, joined; every symbol shows event 0.
 fn symbol_steps<'a>(on: &'a [u64; 16], m: &'a Lent, g: usize) -> u64
     requires { g < 32 }
-    ensures { (i : ℕ) → bit result i ≡ some 16 (λ e. shown (modelIn m.now) g e && bit (get_or on.now e 0) i) }
+    ensures { (i : ℕ) → bit result i ≡ some 16 (λ e. shown (model_in m.now) g e && bit (get_or on.now e 0) i) }
 {
     let at = g * 16;
     let half = join(on, 0, eight(m, at), on[0]);
@@ -125,7 +125,7 @@ fn symbol_steps<'a>(on: &'a [u64; 16], m: &'a Lent, g: usize) -> u64
 
 // For each class of rules the matrix of its steps.
 pub fn class_steps(m: &Lent) -> [u64; 256]
-    ensures { result ≡ classSteps (modelIn m.now) }
+    ensures { result ≡ class_steps (model_in m.now) }
 {
     let shape = lent::shape(m);
     let on = by_event(m, shape.moves);
@@ -141,7 +141,7 @@ pub fn class_steps(m: &Lent) -> [u64; 256]
 
 // The class of rule r; 0 for a number from 256 on, which is no rule.
 pub fn class_of(m: &Lent, r: usize) -> usize
-    ensures value { result ≡ class_of (modelIn m.now) r }
+    ensures value { result ≡ class_of (model_in m.now) r }
     ensures upper_bound { result < 256 }
 {
     if 256 <= r {
@@ -181,7 +181,7 @@ pub fn symbol_of(class: usize) -> usize
 
 // The states to which rule r can step from those in `from`.
 pub fn states_after(m: &Lent, tg: &[u64; 256], r: usize, from: u64) -> u64
-    ensures { result ≡ statesAfter (modelIn m.now) tg.now r from }
+    ensures { result ≡ states_after (model_in m.now) tg.now r from }
 {
     let c = class_of(m, r);
     bits::through(from, tg[c])

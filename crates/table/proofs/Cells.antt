@@ -14,27 +14,27 @@ use Rattle.product.specs.Table.{absent}
 use Rattle.table.specs.Cells.{cleared}
 
 -- the numbers of a fact are in range
-pub head-inside : {G Q q g : ℕ} → q < Q → g < G → (ltb q Q && ltb g G) ≡ true
-head-inside {G} {Q} {q} {g} i j = rw (lt-ltb q Q i, lt-ltb g G j)
+pub head_inside : {G Q q g : ℕ} → q < Q → g < G → (ltb q Q && ltb g G) ≡ true
+head_inside {G} {Q} {q} {g} i j = rw (lt-ltb q Q i, lt-ltb g G j)
 
-pub triple-inside : {G Q q g e : ℕ} → q < Q → g < G → e < Q → (ltb q Q && ltb g G && ltb e Q) ≡ true
-triple-inside {G} {Q} {q} {g} {e} i j k = rw (lt-ltb q Q i, lt-ltb g G j, lt-ltb e Q k)
+pub triple_inside : {G Q q g e : ℕ} → q < Q → g < G → e < Q → (ltb q Q && ltb g G && ltb e Q) ≡ true
+triple_inside {G} {Q} {q} {g} {e} i j k = rw (lt-ltb q Q i, lt-ltb g G j, lt-ltb e Q k)
 
-pub cleared-none : (xs : List ℕ) → xs ≡ cleared 0 xs
+pub cleared_none : (xs : List ℕ) → xs ≡ cleared 0 xs
 unfolding cleared
-cleared-none xs = refl
+cleared_none xs = refl
 
 pub cleared_more : (n : ℕ) (xs ys : List ℕ) → ys ≡ cleared n xs → set ys n absent ≡ cleared (n + 1) xs
 unfolding cleared
 cleared_more n xs ys e = rw add-one (ap (λ l. set l n absent) e)
 
-pub length-cleared : (n : ℕ) (xs : List ℕ) → length (cleared n xs) ≡ length xs
+pub length_cleared : (n : ℕ) (xs : List ℕ) → length (cleared n xs) ≡ length xs
 unfolding cleared
-length-cleared zero xs = refl
-length-cleared (suc n) xs = length-set (cleared n xs) n absent ∙ length-cleared n xs
+length_cleared zero xs = refl
+length_cleared (suc n) xs = length-set (cleared n xs) n absent ∙ length_cleared n xs
 
 -- past the end nothing is cleared
-pub cleared-past : (n k : ℕ) (xs ys : List ℕ) → n ≤ k → length xs ≤ n → ys ≡ cleared n xs → ys ≡ cleared k xs
+pub cleared_past : (n k : ℕ) (xs ys : List ℕ) → n ≤ k → length xs ≤ n → ys ≡ cleared n xs → ys ≡ cleared k xs
 unfolding cleared
-cleared-past n k xs ys l h e =
-    le_ind (λ k. ys ≡ cleared k xs) e (λ j i e'. e' ∙ sym (set_out (cleared j xs) j absent (omega (arith, length-cleared j xs)))) k l
+cleared_past n k xs ys l h e =
+    le_ind (λ k. ys ≡ cleared k xs) e (λ j i e'. e' ∙ sym (set_out (cleared j xs) j absent (omega (arith, length_cleared j xs)))) k l

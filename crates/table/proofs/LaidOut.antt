@@ -13,16 +13,16 @@ use lib.Seq.{take-add, drop-drop, drop-cons, drop-set-lt, get_or-set_same, get_o
 use Rattle.product.specs.Lists.{up_to, over, each}
 use Rattle.product.specs.Facts.{Fact, head, triple}
 use Rattle.product.specs.Table.{Table, absent}
-use Rattle.product.proofs.Lists.{over-suc, and_left, and_right}
-use Rattle.table.specs.Cells.{headCell, tripleCell, view, cleared, headsOf, triplesOf}
-use Rattle.table.proofs.Cells.{head-inside, triple-inside, length-cleared}
+use Rattle.product.proofs.Lists.{over_suc, and_left, and_right}
+use Rattle.table.specs.Cells.{head_cell, triple_cell, view, cleared, heads_of, triples_of}
+use Rattle.table.proofs.Cells.{head_inside, triple_inside, length_cleared}
 
 -- n parts of w elements, one after another
 blocks : (xs : List ℕ) (f : ℕ → List ℕ) (base w n : ℕ) → ((i : ℕ) → i < n → f i ≡ take w (drop (base + i * w) xs)) → over (up_to n) f ≡ take (n * w) (drop base xs)
 blocks xs f base w zero h = let e : 0 * w ≡ 0 = omega arith in rw e
 blocks xs f base w (suc n) h =
     let e : suc n * w ≡ n * w + w = omega arith in
-    over-suc n f
+    over_suc n f
     ∙ ap₂ ◌++◌ (blocks xs f base w n (λ i l. h i (omega arith))) (h n (omega arith) ∙ ap (take w) (sym (drop-drop (n * w) base xs)))
     ∙ rw e (sym (take-add (n * w) w (drop base xs)))
 
@@ -41,17 +41,17 @@ row xs f base n l h =
 row_in : (i n w : ℕ) → i < n → i * w + w ≤ n * w
 row_in i n w l = omega (arith, mul-le-mul_right w l)
 
-module _ (G Q : ℕ) (t : Table) (hs : List ℕ) (long : Q * G ≤ length hs) (is : (q g : ℕ) → q < Q → g < G → t (head q g) ≡ get_or hs (headCell G q g) 0) where
-  heads-front : headsOf G Q t ≡ take (Q * G) hs
-  heads-front = blocks hs (λ q. each (up_to G) (λ g. t (head q g))) 0 G Q λ q i.
+module _ (G Q : ℕ) (t : Table) (hs : List ℕ) (long : Q * G ≤ length hs) (is : (q g : ℕ) → q < Q → g < G → t (head q g) ≡ get_or hs (head_cell G q g) 0) where
+  heads_front : heads_of G Q t ≡ take (Q * G) hs
+  heads_front = blocks hs (λ q. each (up_to G) (λ g. t (head q g))) 0 G Q λ q i.
       let l : q * G + G ≤ Q * G = row_in q Q G i in
       let e : 0 + q * G ≡ q * G = omega arith in
       rw e (row hs (λ g. t (head q g)) (q * G) G (omega arith) (λ g j. is q g i j))
 
 module _ (G Q : ℕ) (t : Table) (ts : List ℕ) (long : Q * G * Q ≤ length ts)
-    (is : (q g e : ℕ) → q < Q → g < G → e < Q → t (triple q g e) ≡ get_or ts (tripleCell G Q q g e) 0) where
-  triples-front : triplesOf G Q t ≡ take (Q * G * Q) ts
-  triples-front =
+    (is : (q g e : ℕ) → q < Q → g < G → e < Q → t (triple q g e) ≡ get_or ts (triple_cell G Q q g e) 0) where
+  triples_front : triples_of G Q t ≡ take (Q * G * Q) ts
+  triples_front =
       let a : Q * (G * Q) ≡ Q * G * Q = sym (mul_assoc Q G Q) in
       rw a at (blocks ts (λ q. over (up_to G) (λ g. each (up_to Q) (λ e. t (triple q g e)))) 0 (G * Q) Q λ q i.
       blocks ts (λ g. each (up_to Q) (λ e. t (triple q g e))) (0 + q * (G * Q)) Q G λ g j.
@@ -63,28 +63,28 @@ module _ (G Q : ℕ) (t : Table) (ts : List ℕ) (long : Q * G * Q ≤ length ts
       place q g = omega (arith, mul_assoc q G Q, add-mul (q * G) g Q)
 
 -- an array is the front of it that a table lays out, and the rest
-pub heads-laid : (G Q : ℕ) (hs ts : List ℕ) (t : Table) → Q * G ≤ length hs → view G Q hs ts ≡ t → hs ≡ headsOf G Q t ++ drop (Q * G) hs
-heads-laid G Q hs ts t l e =
+pub heads_laid : (G Q : ℕ) (hs ts : List ℕ) (t : Table) → Q * G ≤ length hs → view G Q hs ts ≡ t → hs ≡ heads_of G Q t ++ drop (Q * G) hs
+heads_laid G Q hs ts t l e =
     sym (take-append-drop (Q * G) hs)
-    ∙ ap (λ xs. xs ++ drop (Q * G) hs) (sym (heads-front G Q t hs l λ q g i j. ap (λ u. u (head q g)) (sym e) ∙ rw (head-inside i j)))
+    ∙ ap (λ xs. xs ++ drop (Q * G) hs) (sym (heads_front G Q t hs l λ q g i j. ap (λ u. u (head q g)) (sym e) ∙ rw (head_inside i j)))
 
-pub triples-laid : (G Q : ℕ) (hs ts : List ℕ) (t : Table) → Q * G * Q ≤ length ts → view G Q hs ts ≡ t → ts ≡ triplesOf G Q t ++ drop (Q * G * Q) ts
-triples-laid G Q hs ts t l e =
+pub triples_laid : (G Q : ℕ) (hs ts : List ℕ) (t : Table) → Q * G * Q ≤ length ts → view G Q hs ts ≡ t → ts ≡ triples_of G Q t ++ drop (Q * G * Q) ts
+triples_laid G Q hs ts t l e =
     sym (take-append-drop (Q * G * Q) ts)
-    ∙ ap (λ xs. xs ++ drop (Q * G * Q) ts) (sym (triples-front G Q t ts l λ q g f i j k. ap (λ u. u (triple q g f)) (sym e) ∙ rw (triple-inside i j k)))
+    ∙ ap (λ xs. xs ++ drop (Q * G * Q) ts) (sym (triples_front G Q t ts l λ q g f i j k. ap (λ u. u (triple q g f)) (sym e) ∙ rw (triple_inside i j k)))
 
 -- a cleared cell
-cleared-cell : (n : ℕ) (xs : List ℕ) (i : ℕ) → i < n → n ≤ length xs → get_or (cleared n xs) i 0 ≡ absent
+cleared_cell : (n : ℕ) (xs : List ℕ) (i : ℕ) → i < n → n ≤ length xs → get_or (cleared n xs) i 0 ≡ absent
 unfolding cleared
-cleared-cell zero xs i l h = absurd (not-suc-le-zero l)
-cleared-cell (suc n) xs i l h = go (cleared-cell n xs i) (ℕ_discrete i n)
+cleared_cell zero xs i l h = absurd (not-suc-le-zero l)
+cleared_cell (suc n) xs i l h = go (cleared_cell n xs i) (ℕ_discrete i n)
   where
     go : (i < n → n ≤ length xs → get_or (cleared n xs) i 0 ≡ absent) → Dec (i ≡ n) → get_or (set (cleared n xs) n absent) i 0 ≡ absent
-    go ih (yes e) = rw e (get_or-set_same (cleared n xs) n absent 0 (omega (arith, length-cleared n xs)))
+    go ih (yes e) = rw e (get_or-set_same (cleared n xs) n absent 0 (omega (arith, length_cleared n xs)))
     go ih (no e) = get_or-set_other (cleared n xs) n i absent 0 e ∙ ih (omega arith) (omega arith)
 
-pub cleared-view : (G Q : ℕ) (hs ts : List ℕ) → Q * G ≤ length hs → Q * G * Q ≤ length ts → view G Q (cleared (Q * G) hs) (cleared (Q * G * Q) ts) ≡ (λ _. absent)
-cleared-view G Q hs ts l k = fun_ext at
+pub cleared_view : (G Q : ℕ) (hs ts : List ℕ) → Q * G ≤ length hs → Q * G * Q ≤ length ts → view G Q (cleared (Q * G) hs) (cleared (Q * G * Q) ts) ≡ (λ _. absent)
+cleared_view G Q hs ts l k = fun_ext at
   where
     pick : (b : Bool) (n : ℕ) → (T b → n ≡ absent) → cond b n absent ≡ absent
     pick true n h = h tt
@@ -92,16 +92,16 @@ cleared-view G Q hs ts l k = fun_ext at
 
     at : (f : Fact) → view G Q (cleared (Q * G) hs) (cleared (Q * G * Q) ts) f ≡ absent
     at (head q g) = pick (ltb q Q && ltb g G) _ λ t.
-        cleared-cell (Q * G) hs (headCell G q g) (digits_lt (ltb→lt q Q (and_left (ltb q Q) (ltb g G) t)) (ltb→lt g G (and_right (ltb q Q) (ltb g G) t))) l
+        cleared_cell (Q * G) hs (head_cell G q g) (digits_lt (ltb→lt q Q (and_left (ltb q Q) (ltb g G) t)) (ltb→lt g G (and_right (ltb q Q) (ltb g G) t))) l
     at (triple q g e) = pick (ltb q Q && ltb g G && ltb e Q) _ λ t.
         let u : T (ltb q Q && ltb g G) = and_left (ltb q Q && ltb g G) (ltb e Q) t in
-        cleared-cell (Q * G * Q) ts (tripleCell G Q q g e)
+        cleared_cell (Q * G * Q) ts (triple_cell G Q q g e)
         (digits_lt (digits_lt (ltb→lt q Q (and_left (ltb q Q) (ltb g G) u)) (ltb→lt g G (and_right (ltb q Q) (ltb g G) u)))
         (ltb→lt e Q (and_right (ltb q Q && ltb g G) (ltb e Q) t))) k
 
-pub cleared-past-end : (n : ℕ) (xs : List ℕ) → drop n (cleared n xs) ≡ drop n xs
+pub cleared_past_end : (n : ℕ) (xs : List ℕ) → drop n (cleared n xs) ≡ drop n xs
 unfolding cleared
-cleared-past-end n xs = from n n (omega arith)
+cleared_past_end n xs = from n n (omega arith)
   where
     from : (n k : ℕ) → n ≤ k → drop k (cleared n xs) ≡ drop k xs
     from zero k l = refl

@@ -16,80 +16,80 @@ use Rattle.table.specs.declared.Fact.{Fact}
 use Rattle.table.specs.declared.Fact.TheVariants.{Head, Triple}
 use Rattle.table.specs.declared.Place.{Place}
 use Rattle.table.specs.declared.Place.TheVariants.{Outside, Cell}
-use Rattle.table.specs.Cells.{headCell, view}
-use Rattle.table.specs.Places.{fact_of, asFact, place, inside, cell_of, place_of, readAt, put_at, put_in}
-use Rattle.table.proofs.Bytes.{cell-small}
+use Rattle.table.specs.Cells.{head_cell, view}
+use Rattle.table.specs.Places.{fact_of, as_fact, place, inside, cell_of, place_of, read_at, put_at, put_in}
+use Rattle.table.proofs.Bytes.{cell_small}
 
 -- the place r that was told
-told-inside : (b : Bool) (k : ℕ) {r : Place} {i : ℕ} → r ≡ place b k → r ≡ Cell i → (b ≡ true) × (i ≡ k)
-told-inside true k {i = i} e h = (refl, cc)
-told-inside false k e h = let z : ◌≡◌ {A = ℕ} 0 1 = cc in absurd (omega arith)
+told_inside : (b : Bool) (k : ℕ) {r : Place} {i : ℕ} → r ≡ place b k → r ≡ Cell i → (b ≡ true) × (i ≡ k)
+told_inside true k {i = i} e h = (refl, cc)
+told_inside false k e h = let z : ◌≡◌ {A = ℕ} 0 1 = cc in absurd (omega arith)
 
-told-outside : (b : Bool) (k : ℕ) {r : Place} → r ≡ place b k → r ≡ Outside → b ≡ false
-told-outside true k e h = let z : ◌≡◌ {A = ℕ} 0 1 = cc in absurd (omega arith)
-told-outside false k e h = refl
+told_outside : (b : Bool) (k : ℕ) {r : Place} → r ≡ place b k → r ≡ Outside → b ≡ false
+told_outside true k e h = let z : ◌≡◌ {A = ℕ} 0 1 = cc in absurd (omega arith)
+told_outside false k e h = refl
 
 -- a head's, by the tests
 module _ (G Q q g : ℕ) where
-  pub head-state : Q ≤ q → Outside ≡ place_of G Q (head q g)
-  head-state l = rw (le-ltb q Q l)
+  pub head_state : Q ≤ q → Outside ≡ place_of G Q (head q g)
+  head_state l = rw (le-ltb q Q l)
 
-  pub head-symbol : q < Q → G ≤ g → Outside ≡ place_of G Q (head q g)
-  head-symbol i l = rw (lt-ltb q Q i, le-ltb g G l)
+  pub head_symbol : q < Q → G ≤ g → Outside ≡ place_of G Q (head q g)
+  head_symbol i l = rw (lt-ltb q Q i, le-ltb g G l)
 
-  pub head-cell : q < Q → g < G → Cell (q * G + g) ≡ place_of G Q (head q g)
-  head-cell i j = rw (lt-ltb q Q i, lt-ltb g G j)
+  pub head_cell_lem : q < Q → g < G → Cell (q * G + g) ≡ place_of G Q (head q g)
+  head_cell_lem i j = rw (lt-ltb q Q i, lt-ltb g G j)
 
   -- and a triple's, by the place of its row
   module _ {r : Place} (row : r ≡ place_of G Q (head q g)) (e : ℕ) where
-    pub triple-row : r ≡ Outside → Outside ≡ place_of G Q (triple q g e)
-    triple-row h = rw (told-outside (ltb q Q && ltb g G) (headCell G q g) row h)
+    pub triple_row : r ≡ Outside → Outside ≡ place_of G Q (triple q g e)
+    triple_row h = rw (told_outside (ltb q Q && ltb g G) (head_cell G q g) row h)
 
     module _ {i : ℕ} (h : r ≡ Cell i) where
-      is-inside : (ltb q Q && ltb g G) ≡ true
-      is-inside = (told-inside (ltb q Q && ltb g G) (headCell G q g) row h).0
+      is_inside : (ltb q Q && ltb g G) ≡ true
+      is_inside = (told_inside (ltb q Q && ltb g G) (head_cell G q g) row h).0
 
-      cell-is : i ≡ headCell G q g
-      cell-is = (told-inside (ltb q Q && ltb g G) (headCell G q g) row h).1
+      cell_is : i ≡ head_cell G q g
+      cell_is = (told_inside (ltb q Q && ltb g G) (head_cell G q g) row h).1
 
-      pub triple-end : Q ≤ e → Outside ≡ place_of G Q (triple q g e)
-      triple-end l = rw (is-inside, le-ltb e Q l)
+      pub triple_end : Q ≤ e → Outside ≡ place_of G Q (triple q g e)
+      triple_end l = rw (is_inside, le-ltb e Q l)
 
-      pub triple-cell : e < Q → Cell (i * Q + e) ≡ place_of G Q (triple q g e)
-      triple-cell l = rw (is-inside, lt-ltb e Q l, ← cell-is)
+      pub triple_cell : e < Q → Cell (i * Q + e) ≡ place_of G Q (triple q g e)
+      triple_cell l = rw (is_inside, lt-ltb e Q l, ← cell_is)
 
       -- its number does not wrap
-      pub triple-small : G < 256 → Q < 256 → e < Q → i * Q + e ≤ 65280 * 255 + 255
-      triple-small k l m =
-          let a : q < Q = ltb→lt q Q (and_left (ltb q Q) (ltb g G) (rw is-inside tt)) in
-          let b : g < G = ltb→lt g G (and_right (ltb q Q) (ltb g G) (rw is-inside tt)) in
-          let few : i ≤ 65280 = omega (arith, cell-is, cell-small {a = q} {b = G} {c = g} 255 (omega arith) k (omega arith)) in
-          cell-small {a = i} {b = Q} {c = e} 65280 few l (omega arith)
+      pub triple_small : G < 256 → Q < 256 → e < Q → i * Q + e ≤ 65280 * 255 + 255
+      triple_small k l m =
+          let a : q < Q = ltb→lt q Q (and_left (ltb q Q) (ltb g G) (rw is_inside tt)) in
+          let b : g < G = ltb→lt g G (and_right (ltb q Q) (ltb g G) (rw is_inside tt)) in
+          let few : i ≤ 65280 = omega (arith, cell_is, cell_small {a = q} {b = G} {c = g} 255 (omega arith) k (omega arith)) in
+          cell_small {a = i} {b = Q} {c = e} 65280 few l (omega arith)
 
 -- what is read
-pub read-nowhere : (xs : List ℕ) {r : Place} → r ≡ Outside → absent ≡ readAt xs r
-read-nowhere xs h = rw h
+pub read_nowhere : (xs : List ℕ) {r : Place} → r ≡ Outside → absent ≡ read_at xs r
+read_nowhere xs h = rw h
 
 module _ (xs : List ℕ) {r : Place} {i : ℕ} (h : r ≡ Cell i) where
-  pub read_past : length xs ≤ i → 0 ≡ readAt xs r
+  pub read_past : length xs ≤ i → 0 ≡ read_at xs r
   read_past l = rw h (sym (get_or-eq_default xs 0 l))
 
-  pub read_cell : get_or xs i 0 ≡ readAt xs r
+  pub read_cell : get_or xs i 0 ≡ read_at xs r
   read_cell = rw h
 
   -- and put
-  pub put-past : (n : ℕ) → length xs ≤ i → xs ≡ put_at xs r n
-  put-past n l = rw h (sym (set_out xs i n l))
+  pub put_past : (n : ℕ) → length xs ≤ i → xs ≡ put_at xs r n
+  put_past n l = rw h (sym (set_out xs i n l))
 
-  pub put-cell : (n : ℕ) → set xs i n ≡ put_at xs r n
-  put-cell n = rw h
+  pub put_cell : (n : ℕ) → set xs i n ≡ put_at xs r n
+  put_cell n = rw h
 
-pub put-nowhere : (xs : List ℕ) {r : Place} (n : ℕ) → r ≡ Outside → xs ≡ put_at xs r n
-put-nowhere xs n h = rw h
+pub put_nowhere : (xs : List ℕ) {r : Place} (n : ℕ) → r ≡ Outside → xs ≡ put_at xs r n
+put_nowhere xs n h = rw h
 
 -- at the place r of a fact, as the definitions have it
 module _ (G Q : ℕ) (xs : List ℕ) where
-  reads : (b : Bool) (k : ℕ) → readAt xs (place b k) ≡ cond b (get_or xs k 0) absent
+  reads : (b : Bool) (k : ℕ) → read_at xs (place b k) ≡ cond b (get_or xs k 0) absent
   reads true k = refl
   reads false k = refl
 
@@ -97,30 +97,30 @@ module _ (G Q : ℕ) (xs : List ℕ) where
   puts true k n = refl
   puts false k n = refl
 
-  pub fact-read : (f : product.Fact) {r : Place} → r ≡ place_of G Q f → {n : ℕ} → n ≡ readAt xs r → n ≡ view G Q xs xs f
-  fact-read (head q g) at e = e ∙ ap (readAt xs) at ∙ reads (inside G Q (head q g)) (cell_of G Q (head q g))
-  fact-read (triple q g x) at e = e ∙ ap (readAt xs) at ∙ reads (inside G Q (triple q g x)) (cell_of G Q (triple q g x))
+  pub fact_read : (f : product.Fact) {r : Place} → r ≡ place_of G Q f → {n : ℕ} → n ≡ read_at xs r → n ≡ view G Q xs xs f
+  fact_read (head q g) at e = e ∙ ap (read_at xs) at ∙ reads (inside G Q (head q g)) (cell_of G Q (head q g))
+  fact_read (triple q g x) at e = e ∙ ap (read_at xs) at ∙ reads (inside G Q (triple q g x)) (cell_of G Q (triple q g x))
 
-  pub fact-put : (f : product.Fact) {r : Place} → r ≡ place_of G Q f → (n : ℕ) {ys : List ℕ} → ys ≡ put_at xs r n → ys ≡ put_in G Q xs f n
-  fact-put (head q g) at n e = e ∙ ap (λ r. put_at xs r n) at ∙ puts (inside G Q (head q g)) (cell_of G Q (head q g)) n
-  fact-put (triple q g x) at n e = e ∙ ap (λ r. put_at xs r n) at ∙ puts (inside G Q (triple q g x)) (cell_of G Q (triple q g x)) n
+  pub fact_put : (f : product.Fact) {r : Place} → r ≡ place_of G Q f → (n : ℕ) {ys : List ℕ} → ys ≡ put_at xs r n → ys ≡ put_in G Q xs f n
+  fact_put (head q g) at n e = e ∙ ap (λ r. put_at xs r n) at ∙ puts (inside G Q (head q g)) (cell_of G Q (head q g)) n
+  fact_put (triple q g x) at n e = e ∙ ap (λ r. put_at xs r n) at ∙ puts (inside G Q (triple q g x)) (cell_of G Q (triple q g x)) n
 
 -- the array of its kind has the fact's rank
 module _ (G Q : ℕ) (hs ts : List ℕ) {f : Fact} {r : Place} where
-  pub rank-head : {q g : ℕ} → f ≡ Head q g → r ≡ place_of G Q (fact_of f) → {n : ℕ} → n ≡ readAt hs r → n ≡ view G Q hs ts (fact_of f)
-  rank-head h at e = fact-read G Q hs (fact_of f) at e ∙ rw h
+  pub rank_head : {q g : ℕ} → f ≡ Head q g → r ≡ place_of G Q (fact_of f) → {n : ℕ} → n ≡ read_at hs r → n ≡ view G Q hs ts (fact_of f)
+  rank_head h at e = fact_read G Q hs (fact_of f) at e ∙ rw h
 
-  pub rank-triple : {q g x : ℕ} → f ≡ Triple q g x → r ≡ place_of G Q (fact_of f) → {n : ℕ} → n ≡ readAt ts r → n ≡ view G Q hs ts (fact_of f)
-  rank-triple h at e = fact-read G Q ts (fact_of f) at e ∙ rw h
+  pub rank_triple : {q g x : ℕ} → f ≡ Triple q g x → r ≡ place_of G Q (fact_of f) → {n : ℕ} → n ≡ read_at ts r → n ≡ view G Q hs ts (fact_of f)
+  rank_triple h at e = fact_read G Q ts (fact_of f) at e ∙ rw h
 
 -- whether a fact has a place
-pub has-place : (G Q : ℕ) (f : product.Fact) {r : Place} {i : ℕ} → r ≡ place_of G Q f → r ≡ Cell i → inside G Q f ≡ true
-has-place G Q f at h = (told-inside (inside G Q f) (cell_of G Q f) at h).0
+pub has_place : (G Q : ℕ) (f : product.Fact) {r : Place} {i : ℕ} → r ≡ place_of G Q f → r ≡ Cell i → inside G Q f ≡ true
+has_place G Q f at h = (told_inside (inside G Q f) (cell_of G Q f) at h).0
 
-pub has-none : (G Q : ℕ) (f : product.Fact) {r : Place} → r ≡ place_of G Q f → r ≡ Outside → inside G Q f ≡ false
-has-none G Q f = told-outside (inside G Q f) (cell_of G Q f)
+pub has_none : (G Q : ℕ) (f : product.Fact) {r : Place} → r ≡ place_of G Q f → r ≡ Outside → inside G Q f ≡ false
+has_none G Q f = told_outside (inside G Q f) (cell_of G Q f)
 
 -- the theory's fact in the code and back
-pub fact-back : (f : product.Fact) → fact_of (asFact f) ≡ f
-fact-back (head q g) = refl
-fact-back (triple q g e) = refl
+pub fact_back : (f : product.Fact) → fact_of (as_fact f) ≡ f
+fact_back (head q g) = refl
+fact_back (triple q g e) = refl

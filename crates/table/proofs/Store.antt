@@ -11,21 +11,21 @@ use lib.ListN.{length, get_or, set, length-set, drop}
 use lib.Seq.{get_or-set_same, get_or-set_other, drop-set-lt}
 use Rattle.product.specs.Facts.{Fact, head, triple, same}
 use Rattle.product.proofs.Lists.{and_left, and_right}
-use Rattle.product.proofs.Rounds.{same-eq, same_refl}
-use Rattle.table.specs.Cells.{headCell, tripleCell, view, putHead, putTriple, store}
-use Rattle.table.proofs.Cells.{head-inside, triple-inside}
+use Rattle.product.proofs.Rounds.{same_eq, same_refl}
+use Rattle.table.specs.Cells.{head_cell, triple_cell, view, put_head, put_triple, store}
+use Rattle.table.proofs.Cells.{head_inside, triple_inside}
 
 -- two cells of a row of c, and two places of it
-pub digits-row : {q q' c r r' : ℕ} → r < c → r' < c → q * c + r ≡ q' * c + r' → q ≡ q'
-digits-row {q} {q'} {c} h h' e = sym (digits_div q h) ∙ ap (λ n. n / c) e ∙ digits_div q' h'
+pub digits_row : {q q' c r r' : ℕ} → r < c → r' < c → q * c + r ≡ q' * c + r' → q ≡ q'
+digits_row {q} {q'} {c} h h' e = sym (digits_div q h) ∙ ap (λ n. n / c) e ∙ digits_div q' h'
 
-pub digits-place : (q q' : ℕ) {c r r' : ℕ} → r < c → r' < c → q * c + r ≡ q' * c + r' → r ≡ r'
-digits-place q q' {c} h h' e = sym (digits_mod q h) ∙ ap (λ n. n % c) e ∙ digits_mod q' h'
+pub digits_place : (q q' : ℕ) {c r r' : ℕ} → r < c → r' < c → q * c + r ≡ q' * c + r' → r ≡ r'
+digits_place q q' {c} h h' e = sym (digits_mod q h) ∙ ap (λ n. n % c) e ∙ digits_mod q' h'
 
 module _ (G Q : ℕ) (hs ts : List ℕ) (long : Q * G * Q ≤ length ts) where
-  set-triple : (q g e k : ℕ) → q < Q → g < G → e < Q
+  set_triple : (q g e k : ℕ) → q < Q → g < G → e < Q
       → view G Q hs (set ts ((q * G + g) * Q + e) k) ≡ store (view G Q hs ts) (triple q g e) k
-  set-triple q g e k i j l = fun_ext at
+  set_triple q g e k i j l = fun_ext at
     where
       cell : ℕ
       cell = (q * G + g) * Q + e
@@ -48,16 +48,16 @@ module _ (G Q : ℕ) (hs ts : List ℕ) (long : Q * G * Q ≤ length ts) where
           there true h x =
               let (i', j', l') = h tt in
               get_or-set_other ts ((q * G + g) * Q + e) ((q' * G + g') * Q + e') k 0 λ y.
-              let z : q' * G + g' ≡ q * G + g = digits-row l' l y in
-              let u : q' ≡ q = digits-row j' j z in
-              let v : g' ≡ g = digits-place q' q j' j z in
-              let w : e' ≡ e = digits-place (q' * G + g') (q * G + g) l' l y in
+              let z : q' * G + g' ≡ q * G + g = digits_row l' l y in
+              let u : q' ≡ q = digits_row j' j z in
+              let v : g' ≡ g = digits_place q' q j' j z in
+              let w : e' ≡ e = digits_place (q' * G + g') (q * G + g) l' l y in
               let f : triple q' g' e' ≡ triple q g e = cc in
               subst T x (subst (λ d. T (same (triple q g e) d)) (sym f) (same_refl (triple q g e)))
 
           go : (b : Bool) → same (triple q g e) (triple q' g' e') ≡ b
               → view G Q hs (set ts ((q * G + g) * Q + e) k) (triple q' g' e') ≡ cond b k (view G Q hs ts (triple q' g' e'))
-          go true x = subst (λ d. view G Q hs (set ts ((q * G + g) * Q + e) k) d ≡ k) (same-eq (triple q g e) (triple q' g' e') (rw x tt)) here
+          go true x = subst (λ d. view G Q hs (set ts ((q * G + g) * Q + e) k) d ≡ k) (same_eq (triple q g e) (triple q' g' e') (rw x tt)) here
           go false x = there (ltb q' Q && ltb g' G && ltb e' Q)
               (λ t. (
                 ltb→lt q' Q (and_left (ltb q' Q) (ltb g' G) (and_left (ltb q' Q && ltb g' G) (ltb e' Q) t)),
@@ -66,8 +66,8 @@ module _ (G Q : ℕ) (hs ts : List ℕ) (long : Q * G * Q ≤ length ts) where
               )) x
 
 module _ (G Q : ℕ) (hs ts : List ℕ) (long : Q * G ≤ length hs) where
-  set-head : (q g k : ℕ) → q < Q → g < G → view G Q (set hs (q * G + g) k) ts ≡ store (view G Q hs ts) (head q g) k
-  set-head q g k i j = fun_ext at
+  set_head : (q g k : ℕ) → q < Q → g < G → view G Q (set hs (q * G + g) k) ts ≡ store (view G Q hs ts) (head q g) k
+  set_head q g k i j = fun_ext at
     where
       at : (f : Fact) → view G Q (set hs (q * G + g) k) ts f ≡ store (view G Q hs ts) (head q g) k f
       at (triple q' g' e') = refl
@@ -82,31 +82,31 @@ module _ (G Q : ℕ) (hs ts : List ℕ) (long : Q * G ≤ length hs) where
           there true h x =
               let (i', j') = h tt in
               get_or-set_other hs (q * G + g) (q' * G + g') k 0 λ y.
-              let u : q' ≡ q = digits-row j' j y in
-              let v : g' ≡ g = digits-place q' q j' j y in
+              let u : q' ≡ q = digits_row j' j y in
+              let v : g' ≡ g = digits_place q' q j' j y in
               let f : head q' g' ≡ head q g = cc in
               subst T x (subst (λ d. T (same (head q g) d)) (sym f) (same_refl (head q g)))
 
           go : (b : Bool) → same (head q g) (head q' g') ≡ b → view G Q (set hs (q * G + g) k) ts (head q' g') ≡ cond b k (view G Q hs ts (head q' g'))
-          go true x = subst (λ d. view G Q (set hs (q * G + g) k) ts d ≡ k) (same-eq (head q g) (head q' g') (rw x tt)) here
+          go true x = subst (λ d. view G Q (set hs (q * G + g) k) ts d ≡ k) (same_eq (head q g) (head q' g') (rw x tt)) here
           go false x = there (ltb q' Q && ltb g' G) (λ t. (ltb→lt q' Q (and_left (ltb q' Q) (ltb g' G) t), ltb→lt g' G (and_right (ltb q' Q) (ltb g' G) t))) x
 
 module _ {G Q q g : ℕ} (i : q < Q) (j : g < G) (n : ℕ) (hs : List ℕ) where
-  pub store-head : (ts : List ℕ) → Q * G ≤ length hs → view G Q (putHead G Q hs q g n) ts ≡ store (view G Q hs ts) (head q g) n
-  store-head ts long = rw (head-inside i j) (set-head G Q hs ts long q g n i j)
+  pub store_head : (ts : List ℕ) → Q * G ≤ length hs → view G Q (put_head G Q hs q g n) ts ≡ store (view G Q hs ts) (head q g) n
+  store_head ts long = rw (head_inside i j) (set_head G Q hs ts long q g n i j)
 
-  pub past_head : drop (Q * G) (putHead G Q hs q g n) ≡ drop (Q * G) hs
-  past_head = rw (head-inside i j) (drop-set-lt (Q * G) hs (headCell G q g) n (digits_lt i j))
+  pub past_head : drop (Q * G) (put_head G Q hs q g n) ≡ drop (Q * G) hs
+  past_head = rw (head_inside i j) (drop-set-lt (Q * G) hs (head_cell G q g) n (digits_lt i j))
 
-  pub length-head : length (putHead G Q hs q g n) ≡ length hs
-  length-head = rw (head-inside i j) (length-set hs (headCell G q g) n)
+  pub length_head : length (put_head G Q hs q g n) ≡ length hs
+  length_head = rw (head_inside i j) (length-set hs (head_cell G q g) n)
 
 module _ {G Q q g e : ℕ} (i : q < Q) (j : g < G) (k : e < Q) (n : ℕ) (ts : List ℕ) where
-  pub store-triple : (hs : List ℕ) → Q * G * Q ≤ length ts → view G Q hs (putTriple G Q ts q g e n) ≡ store (view G Q hs ts) (triple q g e) n
-  store-triple hs long = rw (triple-inside i j k) (set-triple G Q hs ts long q g e n i j k)
+  pub store_triple : (hs : List ℕ) → Q * G * Q ≤ length ts → view G Q hs (put_triple G Q ts q g e n) ≡ store (view G Q hs ts) (triple q g e) n
+  store_triple hs long = rw (triple_inside i j k) (set_triple G Q hs ts long q g e n i j k)
 
-  pub past-triple : drop (Q * G * Q) (putTriple G Q ts q g e n) ≡ drop (Q * G * Q) ts
-  past-triple = rw (triple-inside i j k) (drop-set-lt (Q * G * Q) ts (tripleCell G Q q g e) n (digits_lt (digits_lt i j) k))
+  pub past_triple : drop (Q * G * Q) (put_triple G Q ts q g e n) ≡ drop (Q * G * Q) ts
+  past_triple = rw (triple_inside i j k) (drop-set-lt (Q * G * Q) ts (triple_cell G Q q g e) n (digits_lt (digits_lt i j) k))
 
-  pub length-triple : length (putTriple G Q ts q g e n) ≡ length ts
-  length-triple = rw (triple-inside i j k) (length-set ts (tripleCell G Q q g e) n)
+  pub length_triple : length (put_triple G Q ts q g e n) ≡ length ts
+  length_triple = rw (triple_inside i j k) (length-set ts (triple_cell G Q q g e) n)

@@ -7,16 +7,16 @@ use Rattle.table.specs.declared.Fact.{Fact}
 use Rattle.table.specs.declared.Fact.TheVariants.{Head, Triple}
 use Rattle.table.specs.declared.Place.{Place}
 use Rattle.table.specs.declared.Place.TheVariants.{Outside, Cell}
-use Rattle.table.specs.Cells.{headCell, tripleCell, putHead, putTriple}
+use Rattle.table.specs.Cells.{head_cell, triple_cell, put_head, put_triple}
 
 -- the code's fact as the theory has it, and the other way
 abbrev pub fact_of : Fact → product.Fact
 fact_of (Head q g) = head q g
 fact_of (Triple q g e) = triple q g e
 
-abbrev pub asFact : product.Fact → Fact
-asFact (head q g) = Head q g
-asFact (triple q g e) = Triple q g e
+abbrev pub as_fact : product.Fact → Fact
+as_fact (head q g) = Head q g
+as_fact (triple q g e) = Triple q g e
 
 -- the cell i, of a fact that is in range
 abbrev pub place : (inside : Bool) → (i : ℕ) → Place
@@ -29,15 +29,15 @@ inside G Q (head q g) = ltb q Q && ltb g G
 inside G Q (triple q g e) = ltb q Q && ltb g G && ltb e Q
 
 abbrev pub cell_of : (G Q : ℕ) → product.Fact → ℕ
-cell_of G Q (head q g) = headCell G q g
-cell_of G Q (triple q g e) = tripleCell G Q q g e
+cell_of G Q (head q g) = head_cell G q g
+cell_of G Q (triple q g e) = triple_cell G Q q g e
 
 abbrev pub place_of : (G Q : ℕ) → product.Fact → Place
 place_of G Q f = place (inside G Q f) (cell_of G Q f)
 
-abbrev pub readAt : List ℕ → Place → ℕ
-readAt xs Outside = absent
-readAt xs (Cell i) = get_or xs i 0
+abbrev pub read_at : List ℕ → Place → ℕ
+read_at xs Outside = absent
+read_at xs (Cell i) = get_or xs i 0
 
 abbrev pub put_at : List ℕ → Place → ℕ → List ℕ
 put_at xs Outside n = xs
@@ -45,5 +45,5 @@ put_at xs (Cell i) n = set xs i n
 
 -- an array with one rank put into the cell of a fact
 abbrev pub put_in : (G Q : ℕ) → List ℕ → product.Fact → (n : ℕ) → List ℕ
-put_in G Q xs (head q g) n = putHead G Q xs q g n
-put_in G Q xs (triple q g e) n = putTriple G Q xs q g e n
+put_in G Q xs (head q g) n = put_head G Q xs q g n
+put_in G Q xs (triple q g e) n = put_triple G Q xs q g e n

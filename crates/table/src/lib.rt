@@ -1,8 +1,8 @@
 // The two lent arrays of a table: 16-bit ranks, 65,535 for a fact that isn't held. Here alone is said what a fact is, and where its cell lies.
 ghost use Rattle.std.specs.Prelude.{◌≡◌, ◌≤◌, length};
 ghost use Rattle.product.specs.Facts.{head};
-ghost use Rattle.table.specs.Cells.{headCount, tripleCount, view, cleared};
-ghost use Rattle.table.specs.Places.{fact_of, place_of, readAt, put_at};
+ghost use Rattle.table.specs.Cells.{head_count, triple_count, view, cleared};
+ghost use Rattle.table.specs.Places.{fact_of, place_of, read_at, put_at};
 
 // The number that marks a fact that isn't held.
 pub const ABSENT: u16 = 65535;
@@ -30,14 +30,14 @@ pub enum Place {
 
 // How many heads a table has.
 pub fn head_count(size: Size) -> usize
-    ensures { result ≡ headCount size.symbols size.states }
+    ensures { result ≡ head_count size.symbols size.states }
 {
     (size.states as usize) * (size.symbols as usize)
 }
 
 // How many triples.
 pub fn triple_count(size: Size) -> usize
-    ensures { result ≡ tripleCount size.symbols size.states }
+    ensures { result ≡ triple_count size.symbols size.states }
 {
     head_count(size) * (size.states as usize)
 }
@@ -76,7 +76,7 @@ pub fn place_of(size: Size, f: Fact) -> Place
 
 // The rank at a place: 65,535 where there is none, and 0 past the end of the array.
 pub fn read(cells: &[u16], place: Place) -> u16
-    ensures { result ≡ readAt cells.now place }
+    ensures { result ≡ read_at cells.now place }
 {
     match place {
         Place::Outside => ABSENT,

@@ -17,5 +17,5 @@ pub next : (s : List ℕ) (i : ℕ) → i < length s → drop i s ≡ get_or s i
 next s i h = rw (add-one, drop-cons s i 0)
 
 -- the part `&s[b..]`
-pub tail-part : (s : List ℕ) (b : ℕ) → take (length s - b) (drop b s) ≡ drop b s
-tail-part s b = take_all (length s - b) (drop b s) (omega (arith, length-drop b s))
+pub tail_part : (s : List ℕ) (b : ℕ) → take (length s - b) (drop b s) ≡ drop b s
+tail_part s b = take_all (length s - b) (drop b s) (omega (arith, length-drop b s))

@@ -12,27 +12,27 @@ use lib.ListN.{length, get_or, take, drop, drop_of_length-le, length-drop}
 use lib.Seq.{take_all}
 use borrow.Author.Tests.{eq-eqb, ne_eqb, eqb-true}
 use Rattle.text.specs.Split.{pick, first, later, split, joined, without, Each}
-use Rattle.text.proofs.Lists.{next, tail-part}
+use Rattle.text.proofs.Lists.{next, tail_part}
 
 -- how the first piece goes on at i
 module _ (c : ℕ) (s : List ℕ) (i : ℕ) where
-  pub first-at : i < length s → get_or s i 0 ≡ c → first c (drop i s) ≡ []
+  pub first_at : i < length s → get_or s i 0 ≡ c → first c (drop i s) ≡ []
   unfolding first
-  first-at h e = rw (next s i h) (simp (eq-eqb _ _ e))
+  first_at h e = rw (next s i h) (simp (eq-eqb _ _ e))
 
   pub first_next : i < length s → (get_or s i 0 ≡ c → ⊥) → first c (drop i s) ≡ get_or s i 0 ∷ first c (drop (i + 1) s)
   unfolding first
   first_next h e = rw (next s i h) (simp (ne_eqb _ _ e))
 
-  pub first-end : length s ≤ i → first c (drop i s) ≡ []
+  pub first_end : length s ≤ i → first c (drop i s) ≡ []
   unfolding first
-  first-end h = rw (drop_of_length-le s h)
+  first_end h = rw (drop_of_length-le s h)
 
 -- the first piece is the part before the place that find answers
-pub first-take : (c : ℕ) (s : List ℕ) → take (length (first c s)) s ≡ first c s
+pub first_take : (c : ℕ) (s : List ℕ) → take (length (first c s)) s ≡ first c s
 unfolding first
-first-take c [] = refl
-first-take c (b ∷ s) = go (first-take c s) (eqb b c)
+first_take c [] = refl
+first_take c (b ∷ s) = go (first_take c s) (eqb b c)
   where
     go : take (length (first c s)) s ≡ first c s → (t : Bool) → take (length (pick t [] (b ∷ first c s))) (b ∷ s) ≡ pick t [] (b ∷ first c s)
     go more true = refl
@@ -47,20 +47,20 @@ first_short c (b ∷ s) = go (first_short c s) (eqb b c)
     go more true = zero-le
     go more false = suc-le-suc more
 
-later-drop : (c : ℕ) (s : List ℕ) → length (first c s) < length s → later c s ≡ split c (drop (suc (length (first c s))) s)
+later_drop : (c : ℕ) (s : List ℕ) → length (first c s) < length s → later c s ≡ split c (drop (suc (length (first c s))) s)
 unfolding first later
-later-drop c [] h = absurd (not-suc-le-zero h)
-later-drop c (b ∷ s) h = go (later-drop c s) (eqb b c) h
+later_drop c [] h = absurd (not-suc-le-zero h)
+later_drop c (b ∷ s) h = go (later_drop c s) (eqb b c) h
   where
     go : (length (first c s) < length s → later c s ≡ split c (drop (suc (length (first c s))) s)) → (t : Bool)
         → length (pick t [] (b ∷ first c s)) < suc (length s) → pick t (split c s) (later c s) ≡ split c (drop (length (pick t [] (b ∷ first c s))) s)
     go more true h = refl
     go more false h = more (le_of_suc-le-suc h)
 
-later-none : (c : ℕ) (s : List ℕ) → length s ≤ length (first c s) → later c s ≡ []
+later_none : (c : ℕ) (s : List ℕ) → length s ≤ length (first c s) → later c s ≡ []
 unfolding first later
-later-none c [] h = refl
-later-none c (b ∷ s) h = go (later-none c s) (eqb b c) h
+later_none c [] h = refl
+later_none c (b ∷ s) h = go (later_none c s) (eqb b c) h
   where
     go : (length s ≤ length (first c s) → later c s ≡ []) → (t : Bool)
         → suc (length s) ≤ length (pick t [] (b ∷ first c s)) → pick t (split c s) (later c s) ≡ []
@@ -73,88 +73,88 @@ after e s = take (length s - (e + 1)) (drop (e + 1) s)
 
 -- the parts of s by the place e that find answers
 module _ (c : ℕ) (s : List ℕ) {e : ℕ} (f : e ≡ length (first c s)) where
-  pub place-within : e ≤ length s
-  place-within = rw f (first_short c s)
+  pub place_within : e ≤ length s
+  place_within = rw f (first_short c s)
 
   -- `s[..e]`
   pub first_piece : take e s ≡ first c s
-  first_piece = rw f (first-take c s)
+  first_piece = rw f (first_take c s)
 
   pub later_pieces : e < length s → later c s ≡ split c (drop (e + 1) s)
-  later_pieces h = rw add-one (rw f (later-drop c s (rw f at h)))
+  later_pieces h = rw add-one (rw f (later_drop c s (rw f at h)))
 
-  pub later-after : e < length s → later c s ≡ split c (after e s)
-  later-after h = later_pieces h ∙ ap (split c) (sym (tail-part s (e + 1)))
+  pub later_after : e < length s → later c s ≡ split c (after e s)
+  later_after h = later_pieces h ∙ ap (split c) (sym (tail_part s (e + 1)))
 
-  pub no-later : length s ≤ e → later c s ≡ []
-  no-later h = later-none c s (rw f at h)
+  pub no_later : length s ≤ e → later c s ≡ []
+  no_later h = later_none c s (rw f at h)
 
-  pub whole-piece : length s ≤ e → first c s ≡ s
-  whole-piece h = sym first_piece ∙ take_all e s h
+  pub whole_piece : length s ≤ e → first c s ≡ s
+  whole_piece h = sym first_piece ∙ take_all e s h
 
-pub after-shorter : (e : ℕ) (s : List ℕ) → e < length s → length (after e s) < length s
-after-shorter e s h = omega (arith, ap length (tail-part s (e + 1)), length-drop (e + 1) s)
+pub after_shorter : (e : ℕ) (s : List ℕ) → e < length s → length (after e s) < length s
+after_shorter e s h = omega (arith, ap length (tail_part s (e + 1)), length-drop (e + 1) s)
 
 -- a list without the separator is its own first piece, and has no other
-pub first-without : (c : ℕ) (s : List ℕ) → T (without c s) → first c s ≡ s
+pub first_without : (c : ℕ) (s : List ℕ) → T (without c s) → first c s ≡ s
 unfolding first without
-first-without c [] t = refl
-first-without c (b ∷ s) t = go (first-without c s) (eqb b c) t
+first_without c [] t = refl
+first_without c (b ∷ s) t = go (first_without c s) (eqb b c) t
   where
     go : (T (without c s) → first c s ≡ s) → (d : Bool) → T (not d && without c s) → pick d [] (b ∷ first c s) ≡ b ∷ s
     go more false t = ap (λ l. b ∷ l) (more t)
 
-pub later-without : (c : ℕ) (s : List ℕ) → T (without c s) → later c s ≡ []
-later-without c s t = later-none c s (rw (first-without c s t) (le_refl _))
+pub later_without : (c : ℕ) (s : List ℕ) → T (without c s) → later c s ≡ []
+later_without c s t = later_none c s (rw (first_without c s t) (le_refl _))
 
 -- the first piece has no separator in it
-pub without-first : (c : ℕ) (s : List ℕ) → T (without c (first c s))
+pub without_first : (c : ℕ) (s : List ℕ) → T (without c (first c s))
 unfolding first without
-without-first c [] = tt
-without-first c (b ∷ s) = go (without-first c s) (eqb b c) refl
+without_first c [] = tt
+without_first c (b ∷ s) = go (without_first c s) (eqb b c) refl
   where
     go : T (without c (first c s)) → (d : Bool) → eqb b c ≡ d → T (without c (pick d [] (b ∷ first c s)))
     go more true e = tt
     go more false e = rw e more
 
-pub without-append : (c : ℕ) (s t : List ℕ) → T (without c s) → T (without c t) → T (without c (s ++ t))
+pub without_append : (c : ℕ) (s t : List ℕ) → T (without c s) → T (without c t) → T (without c (s ++ t))
 unfolding without
-without-append c [] t h k = k
-without-append c (b ∷ s) t h k = go (without-append c s t) (eqb b c) h
+without_append c [] t h k = k
+without_append c (b ∷ s) t h k = go (without_append c s t) (eqb b c) h
   where
     go : (T (without c s) → T (without c t) → T (without c (s ++ t))) → (d : Bool) → T (not d && without c s) → T (not d && without c (s ++ t))
     go more false h = more h k
 
 -- splitting takes a piece off
-pub split-append : (c : ℕ) (s t : List ℕ) → T (without c s) → split c (s ++ c ∷ t) ≡ s ∷ split c t
+pub split_append : (c : ℕ) (s t : List ℕ) → T (without c s) → split c (s ++ c ∷ t) ≡ s ∷ split c t
 unfolding first later without
-split-append c [] t h = rw (eq-eqb c c refl)
-split-append c (b ∷ s) t h = go (split-append c s t) (eqb b c) h
+split_append c [] t h = rw (eq-eqb c c refl)
+split_append c (b ∷ s) t h = go (split_append c s t) (eqb b c) h
   where
-    onFirst : ℕ → List (List ℕ) → List (List ℕ)
-    onFirst d [] = []
-    onFirst d (p ∷ ps) = (d ∷ p) ∷ ps
+    on_first : ℕ → List (List ℕ) → List (List ℕ)
+    on_first d [] = []
+    on_first d (p ∷ ps) = (d ∷ p) ∷ ps
 
     go : (T (without c s) → split c (s ++ c ∷ t) ≡ s ∷ split c t) → (d : Bool) → T (not d && without c s)
         → pick d [] (b ∷ first c (s ++ c ∷ t)) ∷ pick d (split c (s ++ c ∷ t)) (later c (s ++ c ∷ t)) ≡ (b ∷ s) ∷ split c t
-    go more false h = ap (onFirst b) (more h)
+    go more false h = ap (on_first b) (more h)
 
 -- splitting loses nothing: the pieces joined again are the list
-pub joined-split : (c : ℕ) (s : List ℕ) → joined c (first c s) (later c s) ≡ s
+pub joined_split : (c : ℕ) (s : List ℕ) → joined c (first c s) (later c s) ≡ s
 unfolding first later joined
-joined-split c [] = refl
-joined-split c (b ∷ s) = go (joined-split c s) (eqb b c) refl
+joined_split c [] = refl
+joined_split c (b ∷ s) = go (joined_split c s) (eqb b c) refl
   where
-    onFirst : (p : List ℕ) (ps : List (List ℕ)) → joined c (b ∷ p) ps ≡ b ∷ joined c p ps
-    onFirst p [] = refl
-    onFirst p (q ∷ qs) = refl
+    on_first : (p : List ℕ) (ps : List (List ℕ)) → joined c (b ∷ p) ps ≡ b ∷ joined c p ps
+    on_first p [] = refl
+    on_first p (q ∷ qs) = refl
 
     go : joined c (first c s) (later c s) ≡ s → (d : Bool) → eqb b c ≡ d → joined c (pick d [] (b ∷ first c s)) (pick d (split c s) (later c s)) ≡ b ∷ s
     go more true e = ap (λ l. c ∷ l) more ∙ ap (λ x. x ∷ s) (sym (eqb-true b c e))
-    go more false e = onFirst (first c s) (later c s) ∙ ap (λ l. b ∷ l) more
+    go more false e = on_first (first c s) (later c s) ∙ ap (λ l. b ∷ l) more
 
 -- joining loses nothing either, if no piece has the separator
-pub split-joined : (c : ℕ) (p : List ℕ) (ps : List (List ℕ)) → T (without c p) → Each (λ q. T (without c q)) ps → split c (joined c p ps) ≡ p ∷ ps
+pub split_joined : (c : ℕ) (p : List ℕ) (ps : List (List ℕ)) → T (without c p) → Each (λ q. T (without c q)) ps → split c (joined c p ps) ≡ p ∷ ps
 unfolding joined
-split-joined c p [] h k = ap (λ q. q ∷ later c p) (first-without c p h) ∙ ap (λ qs. p ∷ qs) (later-without c p h)
-split-joined c p (q ∷ qs) h k = split-append c p (joined c q qs) h ∙ ap (λ r. p ∷ r) (split-joined c q qs k.0 k.1)
+split_joined c p [] h k = ap (λ q. q ∷ later c p) (first_without c p h) ∙ ap (λ qs. p ∷ qs) (later_without c p h)
+split_joined c p (q ∷ qs) h k = split_append c p (joined c q qs) h ∙ ap (λ r. p ∷ r) (split_joined c q qs k.0 k.1)

@@ -31,11 +31,11 @@ without c [] = true
 without c (b ∷ bs) = not (eqb b c) && without c bs
 
 -- whether two lists are the same
-unfoldable pub sameBytes : List ℕ → List ℕ → Bool
-sameBytes [] [] = true
-sameBytes [] (b ∷ bs) = false
-sameBytes (a ∷ more) [] = false
-sameBytes (a ∷ more) (b ∷ bs) = pick (eqb a b) (sameBytes more bs) false
+unfoldable pub same_bytes : List ℕ → List ℕ → Bool
+same_bytes [] [] = true
+same_bytes [] (b ∷ bs) = false
+same_bytes (a ∷ more) [] = false
+same_bytes (a ∷ more) (b ∷ bs) = pick (eqb a b) (same_bytes more bs) false
 
 -- something holds of each element
 abbrev pub Each : {A : Type 0} → (A → Type 0) → List A → Type 0

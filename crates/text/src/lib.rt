@@ -1,6 +1,6 @@
 // The bytes of a text: where a byte stands, and whether two runs of bytes are the same.
 ghost use Rattle.std.specs.Prelude.{◌≡◌, length};
-ghost use Rattle.text.specs.Split.{first, sameBytes};
+ghost use Rattle.text.specs.Split.{first, same_bytes};
 
 // Where the first c of s stands, or the length of s where there is none.
 pub fn find(s: &[u8], c: u8) -> usize
@@ -18,7 +18,7 @@ pub fn find(s: &[u8], c: u8) -> usize
 
 // Whether two slices hold the same bytes.
 pub fn same(a: &[u8], b: &[u8]) -> bool
-    ensures { result ≡ sameBytes a.now b.now }
+    ensures { result ≡ same_bytes a.now b.now }
 {
     let mut i = 0;
     while i < a.len() {

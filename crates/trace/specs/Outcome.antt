@@ -5,10 +5,10 @@ use Rattle.product.specs.Lists.{each}
 use Rattle.product.specs.Product.{stored}
 use Rattle.product.specs.Answer.{Answer, answered, refused}
 use Rattle.product.specs.Verdict.{Verdict, violation, safe}
-use Rattle.product.specs.Trace.{traceOf}
+use Rattle.product.specs.Trace.{trace_of}
 use Rattle.model.specs.declared.Model.{Model}
-use Rattle.model.specs.Model.{productOf}
-use Rattle.decide.specs.Decided.{decision, headsLeft, triplesLeft}
+use Rattle.model.specs.Model.{product_of}
+use Rattle.decide.specs.Decided.{decision, heads_left, triples_left}
 use Rattle.trace.specs.declared.Traced.{Traced}
 use Rattle.trace.specs.declared.Traced.TheVariants.{Found, Invalid, Short, Spent, Safe, Cut}
 
@@ -30,20 +30,20 @@ abbrev pub fits : (rounds steps room : ℕ) → Answer Trace
 fits n steps room = cond (leb steps room) (answered (traced n steps)) (refused 10 (n ∷ room ∷ []))
 
 -- the answer by the decision's: a refusal of it stands, safe is 9, and a violation is traced
-abbrev pub tracedBy : Model → (room : ℕ) → Answer Verdict → Answer Trace
-tracedBy m room (answered (violation n)) = fits n (length (traceOf (productOf m) (violation n))) room
-tracedBy m room (answered (safe n)) = refused 9 (n ∷ [])
-tracedBy m room (refused number values) = refused number values
+abbrev pub traced_by : Model → (room : ℕ) → Answer Verdict → Answer Trace
+traced_by m room (answered (violation n)) = fits n (length (trace_of (product_of m) (violation n))) room
+traced_by m room (answered (safe n)) = refused 9 (n ∷ [])
+traced_by m room (refused number values) = refused number values
 
 -- the steps that are written, as they are stored: those of a violation's trace
-abbrev pub stepsBy : Model → Answer Verdict → List ℕ
-stepsBy m (answered v) = each (traceOf (productOf m) v) stored
-stepsBy m (refused number values) = []
+abbrev pub steps_by : Model → Answer Verdict → List ℕ
+steps_by m (answered v) = each (trace_of (product_of m) v) stored
+steps_by m (refused number values) = []
 
 -- The contract: the answer r, and the arrays afterwards. The heads and triples are as the decision leaves them; in the room stand the steps from its
 -- first cell on, as far as it has cells, and every other cell is as it was.
 pub record Outcome (m : Model) (budget : ℕ) (hs ts room : List ℕ) (r : Traced) (hs' ts' room' : List ℕ) : Type 0 where
-  pub answer : meaning r ≡ tracedBy m (length room) (decision m budget (length hs) (length ts))
-  pub heads : hs' ≡ headsLeft m budget hs ts
-  pub triples : ts' ≡ triplesLeft m budget hs ts
-  pub steps : room' ≡ sets room 0 (stepsBy m (decision m budget (length hs) (length ts)))
+  pub answer : meaning r ≡ traced_by m (length room) (decision m budget (length hs) (length ts))
+  pub heads : hs' ≡ heads_left m budget hs ts
+  pub triples : ts' ≡ triples_left m budget hs ts
+  pub steps : room' ≡ sets room 0 (steps_by m (decision m budget (length hs) (length ts)))

@@ -14,8 +14,8 @@ use Rattle.culprit.specs.declared.Goal.TheVariants.{Nothing, Of}
 
 -- the numbers of rules and moves can be stored, and the place is one of the room
 pub record Storable (rules moves at room : ℕ) : Type 0 where
-  pub rules-in : rules ≤ 256
-  pub moves-in : moves ≤ 128
+  pub rules_in_lem : rules ≤ 256
+  pub moves_in : moves ≤ 128
   pub place_in : at ≤ room + 1
 
 -- the ranks of t are those of the product p up to round n, and the explanations of `why` are those of p
@@ -28,11 +28,11 @@ abbrev pub HeldFor : Product → ℕ → Goal → Type 0
 HeldFor p n Nothing = Unit {0}
 HeldFor p n (Of f) = T (held p n (fact_of f))
 
-abbrev pub stepsFor : (Fact → List Step) → Goal → List Step
-stepsFor t Nothing = []
-stepsFor t (Of f) = t (fact_of f)
+abbrev pub steps_for : (Fact → List Step) → Goal → List Step
+steps_for t Nothing = []
+steps_for t (Of f) = t (fact_of f)
 
 -- whatever product is explained, the trace of the fact was written
 pub record Unfolded (t : Table) (why : ℕ → Fact → Option Way) (f : Goal) (room : List ℕ) (at r : ℕ) (room' : List ℕ) : Type 0 where
   pub within : r ≤ length room + 1
-  pub steps : (p : Product) (n : ℕ) → Explains p n t why → HeldFor p n f → Put room room' at r (each (stepsFor (trace p n) f) stored)
+  pub steps : (p : Product) (n : ℕ) → Explains p n t why → HeldFor p n f → Put room room' at r (each (steps_for (trace p n) f) stored)

@@ -1,8 +1,8 @@
 // The trace: the explanation of a fact, found in the two arrays of ranks, and unfolded to the steps of a run.
 ghost use Rattle.std.specs.Prelude.{◌≡◌, [], ◌∷◌, ◌+◌, ◌*◌, ◌<◌, length};
-ghost use Rattle.lent.specs.Lending.{shapeIn, ofLent, modelIn};
+ghost use Rattle.lent.specs.Lending.{shape_in, of_lent, model_in};
 ghost use Rattle.text.specs.Put.{Put};
-ghost use Rattle.explain.specs.Answers.{tableIn, searchIn};
+ghost use Rattle.explain.specs.Answers.{table_in, search_in};
 ghost use Rattle.trace.specs.Unfold.{Storable, Unfolded};
 ghost use Rattle.trace.specs.Written.{Ranked, Written};
 ghost use Rattle.trace.specs.Outcome.{Outcome};
@@ -53,7 +53,7 @@ fn unfold_fact<'a>(
     run: Run,
 ) -> usize
     requires { Storable n.rules n.moves run.at (length room.old) }
-    ensures { Unfolded (tableIn n heads.now triples.now) (searchIn m.now n heads.now triples.now) run.of room.old run.at result room.new }
+    ensures { Unfolded (table_in n heads.now triples.now) (search_in m.now n heads.now triples.now) run.of room.old run.at result room.new }
 {
     let at = run.at;
     if room.len() < at {
@@ -84,9 +84,9 @@ fn write_trace<'a>(
     triples: &'a [u16],
     n: u16,
 ) -> Traced
-    requires shape_value { shape ≡ shapeIn m.now }
-    requires ranked { Ranked (ofLent shape m.now) n heads.now triples.now }
-    ensures { Written (ofLent shape m.now) n room.old result room.new }
+    requires shape_value { shape ≡ shape_in m.now }
+    requires ranked { Ranked (of_lent shape m.now) n heads.now triples.now }
+    ensures { Written (of_lent shape m.now) n room.old result room.new }
 {
     let size = fitting::size_of(m);
     let q = shape.startstate as usize;
@@ -118,7 +118,7 @@ pub fn trace(
     triples: &mut [u16],
     room: &mut [u16],
 ) -> Traced
-    ensures { Outcome (modelIn m.now) budget heads.old triples.old room.old result heads.new triples.new room.new }
+    ensures { Outcome (model_in m.now) budget heads.old triples.old room.old result heads.new triples.new room.new }
 {
     let d = decide::decide(m, budget, heads, triples);
     match d {

@@ -9,8 +9,8 @@ use lib.Seq.{take-suc}
 use Rattle.product.specs.Lists.{each}
 use Rattle.product.specs.Product.{Product, Step, loaded}
 use Rattle.product.specs.Runs.{State, start, step, Run}
-use Rattle.product.proofs.Closed.{step-elim}
-use Rattle.violation.specs.Bytes.{orStay, stepped, stateAfter, stepLine, stepLines}
+use Rattle.product.proofs.Closed.{step_elim}
+use Rattle.violation.specs.Bytes.{or_stay, stepped, state_after, step_line, step_lines}
 use Rattle.violation.proofs.Lines.{lines_more}
 
 -- the last step of a run
@@ -23,17 +23,17 @@ each_last [] x = refl
 each_last (y ∷ xs) x = ap (λ ss. loaded y ∷ ss) (each_last xs x)
 
 -- whatever state the first i steps run to from the start, its property state is the one that is printed
-pub states-run : (p : Product) (steps : List ℕ) (i : ℕ) (c : State) → i ≤ length steps → Run p (start p) (each (take i steps) loaded) c → c.0 ≡ stateAfter p steps i
-states-run p steps zero c l h = ap (λ (c : State). c.0) (sym h)
-states-run p steps (suc i) c l h =
+pub states_run : (p : Product) (steps : List ℕ) (i : ℕ) (c : State) → i ≤ length steps → Run p (start p) (each (take i steps) loaded) c → c.0 ≡ state_after p steps i
+states_run p steps zero c l h = ap (λ (c : State). c.0) (sym h)
+states_run p steps (suc i) c l h =
     let e = ap (λ xs. each xs loaded) (take-suc steps i 0 (omega arith)) ∙ each_last (take i steps) (get_or steps i 0) in
     let (b, r, f) = last p (each (take i steps) loaded) (loaded (get_or steps i 0)) (start p) c (subst (λ ss. Run p (start p) ss c) e h) in
-    to (loaded (get_or steps i 0)) b f ∙ ap (stepped p (get_or steps i 0)) (states-run p steps i b (omega arith) r)
+    to (loaded (get_or steps i 0)) b f ∙ ap (stepped p (get_or steps i 0)) (states_run p steps i b (omega arith) r)
   where
-    to : (s : Step) (b : State) → step p s b ≡ some c → c.0 ≡ orStay b.0 (p.next s b.0)
-    to s b f = step-elim p s (λ b c. c.0 ≡ orStay b.0 (p.next s b.0)) (λ q q' w e. sym (ap (orStay q) e)) b c f
+    to : (s : Step) (b : State) → step p s b ≡ some c → c.0 ≡ or_stay b.0 (p.next s b.0)
+    to s b f = step_elim p s (λ b c. c.0 ≡ or_stay b.0 (p.next s b.0)) (λ q q' w e. sym (ap (or_stay q) e)) b c f
 
-pub line-run : (p : Product) (steps : List ℕ) (i : ℕ) (c : State) → i < length steps → Run p (start p) (each (take (suc i) steps) loaded) c
-    → stepLines p steps (i + 1) ≡ stepLines p steps i ++ stepLine p (i + 1) (get_or steps i 0) c.0
-line-run p steps i c l h =
-    sym (lines_more p steps i) ∙ ap (λ s. stepLines p steps i ++ stepLine p (i + 1) (get_or steps i 0) s) (sym (states-run p steps (suc i) c (omega arith) h))
+pub line_run : (p : Product) (steps : List ℕ) (i : ℕ) (c : State) → i < length steps → Run p (start p) (each (take (suc i) steps) loaded) c
+    → step_lines p steps (i + 1) ≡ step_lines p steps i ++ step_line p (i + 1) (get_or steps i 0) c.0
+line_run p steps i c l h =
+    sym (lines_more p steps i) ∙ ap (λ s. step_lines p steps i ++ step_line p (i + 1) (get_or steps i 0) s) (sym (states_run p steps (suc i) c (omega arith) h))

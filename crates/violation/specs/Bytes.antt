@@ -6,9 +6,9 @@ use Rattle.product.specs.Product as product
 use Rattle.product.specs.Product.{Product, loaded}
 use Rattle.modelline.specs.Line.{exit, direct, call}
 use Rattle.model.specs.declared.Model.{Model}
-use Rattle.model.specs.Model.{productOf}
-use Rattle.print.specs.Bytes.{lineBytes, namedBytes}
-use Rattle.violation.specs.Words.{violationWord, stepWord, cutWord}
+use Rattle.model.specs.Model.{product_of}
+use Rattle.print.specs.Bytes.{line_bytes, named_bytes}
+use Rattle.violation.specs.Words.{violation_word, step_word, cut_word}
 
 -- a room of 4,096 steps
 abbrev pub room : ℕ
@@ -25,30 +25,30 @@ kind_of (product.direct g g1) = direct
 kind_of (product.call g g1 g2) = call
 
 -- the state after a stored step, rule·128 + move, from q; q itself where rule and move make no step
-abbrev pub orStay : ℕ → Option ℕ → ℕ
-orStay q none = q
-orStay q (some q') = q'
+abbrev pub or_stay : ℕ → Option ℕ → ℕ
+or_stay q none = q
+or_stay q (some q') = q'
 
 abbrev pub stepped : Product → (step q : ℕ) → ℕ
-stepped p step q = orStay q (p.next (loaded step) q)
+stepped p step q = or_stay q (p.next (loaded step) q)
 
 -- the state after the first steps, from the start
-abbrev pub stateAfter : Product → (steps : List ℕ) → ℕ → ℕ
-stateAfter p steps zero = p.start-state
-stateAfter p steps (suc i) = stepped p (get_or steps i 0) (stateAfter p steps i)
+abbrev pub state_after : Product → (steps : List ℕ) → ℕ → ℕ
+state_after p steps zero = p.start_state
+state_after p steps (suc i) = stepped p (get_or steps i 0) (state_after p steps i)
 
 -- the line of a stored step: its number, rule, move, state after, kind
-abbrev pub stepLine : Product → (number step state : ℕ) → List ℕ
-stepLine p number step state = namedBytes stepWord (number ∷ step / 128 ∷ step % 128 ∷ state ∷ []) (kind_of (p.rule (step / 128)))
+abbrev pub step_line : Product → (number step state : ℕ) → List ℕ
+step_line p number step state = named_bytes step_word (number ∷ step / 128 ∷ step % 128 ∷ state ∷ []) (kind_of (p.rule (step / 128)))
 
 -- the lines of the first n steps, numbered from 1
-unfoldable pub stepLines : Product → (steps : List ℕ) → (n : ℕ) → List ℕ
-stepLines p steps n = over (up_to n) (λ i. stepLine p (i + 1) (get_or steps i 0) (stateAfter p steps (suc i)))
+unfoldable pub step_lines : Product → (steps : List ℕ) → (n : ℕ) → List ℕ
+step_lines p steps n = over (up_to n) (λ i. step_line p (i + 1) (get_or steps i 0) (state_after p steps (suc i)))
 
 -- rounds, and the number of steps, or `cut`
-unfoldable pub firstLine : (whole : Bool) → (rounds n : ℕ) → List ℕ
-firstLine whole rounds n = cond whole (lineBytes violationWord (rounds ∷ n ∷ [])) (namedBytes violationWord (rounds ∷ []) cutWord)
+unfoldable pub first_line : (whole : Bool) → (rounds n : ℕ) → List ℕ
+first_line whole rounds n = cond whole (line_bytes violation_word (rounds ∷ n ∷ [])) (named_bytes violation_word (rounds ∷ []) cut_word)
 
 -- a violation whose trace is whole or cut, with the first n of its steps
-abbrev pub violationBytes : Model → (whole : Bool) → (rounds : ℕ) → (steps : List ℕ) → (n : ℕ) → List ℕ
-violationBytes m whole rounds steps n = firstLine whole rounds n ++ stepLines (productOf m) steps n
+abbrev pub violation_bytes : Model → (whole : Bool) → (rounds : ℕ) → (steps : List ℕ) → (n : ℕ) → List ℕ
+violation_bytes m whole rounds steps n = first_line whole rounds n ++ step_lines (product_of m) steps n

@@ -1,11 +1,11 @@
 // Puts a violation: its rounds, and a line for each step of its trace.
 ghost use Rattle.std.specs.Prelude.{◌≡◌, ℕ, ◌≤◌, min, length};
-ghost use Rattle.lent.specs.Lending.{modelIn, productIn};
+ghost use Rattle.lent.specs.Lending.{model_in, product_in};
 ghost use Rattle.model.specs.Answers.{meant};
-ghost use Rattle.print.specs.Bytes.{namedBytes};
+ghost use Rattle.print.specs.Bytes.{named_bytes};
 ghost use Rattle.text.specs.Put.{Put};
-ghost use Rattle.violation.specs.Words.{stepWord};
-ghost use Rattle.violation.specs.Bytes.{shown, kind_of, stepped, stepLine, stepLines, firstLine, violationBytes};
+ghost use Rattle.violation.specs.Words.{step_word};
+ghost use Rattle.violation.specs.Bytes.{shown, kind_of, stepped, step_line, step_lines, first_line, violation_bytes};
 ghost use Rattle.violation.specs.Steps.{Steps};
 
 use lent::Lent;
@@ -17,7 +17,7 @@ pub const ROOM: usize = 4096;
 // The state after a stored step from q; q itself where it is no step.
 fn state_after(m: &Lent, step: u16, q: usize) -> usize
     requires { q ≤ 255 }
-    ensures value { result ≡ stepped (productIn m.now) step q }
+    ensures value { result ≡ stepped (product_in m.now) step q }
     ensures upper_bound { result ≤ 255 }
 {
     let next = lent::next_state(m, (step / 128) as usize, (step % 128) as usize, q);
@@ -29,7 +29,7 @@ fn state_after(m: &Lent, step: u16, q: usize) -> usize
 
 // Puts the line of a step with these numbers, by this rule.
 fn put_by(out: &mut [u8], at: usize, row: &[u16], rule: Rule) -> usize
-    ensures { Put out.old out.new at result (namedBytes stepWord row.now (kind_of (meant rule))) }
+    ensures { Put out.old out.new at result (named_bytes step_word row.now (kind_of (meant rule))) }
 {
     match rule {
         Rule::Exit(_) => print::put_named(out, at, b"step", row, b"exit"),
@@ -40,7 +40,7 @@ fn put_by(out: &mut [u8], at: usize, row: &[u16], rule: Rule) -> usize
 
 // Puts the line of a stored step: its number, rule, move, the state after it, and its kind.
 fn put_step(out: &mut [u8], at: usize, m: &Lent, number: u16, step: u16, state: u16) -> usize
-    ensures { Put out.old out.new at result (stepLine (productIn m.now) number step state) }
+    ensures { Put out.old out.new at result (step_line (product_in m.now) number step state) }
 {
     let r = step / 128;
     let v = step % 128;
@@ -52,7 +52,7 @@ fn put_step(out: &mut [u8], at: usize, m: &Lent, number: u16, step: u16, state: 
 // Puts the lines of the first `count` steps, numbered from 1, with the states of their run.
 fn put_steps(out: &mut [u8], at: usize, m: &Lent, steps: &[u16], count: usize) -> usize
     requires { Steps (length steps.now) count }
-    ensures { Put out.old out.new at result (stepLines (productIn m.now) steps.now count) }
+    ensures { Put out.old out.new at result (step_lines (product_in m.now) steps.now count) }
 {
     let shape = lent::shape(m);
     let mut q = shape.startstate as usize;
@@ -68,7 +68,7 @@ fn put_steps(out: &mut [u8], at: usize, m: &Lent, steps: &[u16], count: usize) -
 
 // Puts the first line: the rounds, and the number of steps, or `cut` where the trace is not whole.
 fn put_first(out: &mut [u8], whole: bool, rounds: u16, count: u16) -> usize
-    ensures { Put out.old out.new 0 result (firstLine whole rounds count) }
+    ensures { Put out.old out.new 0 result (first_line whole rounds count) }
 {
     if whole {
         let row = [rounds, count];
@@ -96,7 +96,7 @@ pub fn put_violation(
     steps: &[u16],
     count: usize,
 ) -> usize
-    ensures { Put out.old out.new 0 result (violationBytes (modelIn m.now) whole rounds steps.now (shown (length steps.now) count)) }
+    ensures { Put out.old out.new 0 result (violation_bytes (model_in m.now) whole rounds steps.now (shown (length steps.now) count)) }
 {
     let n = least(count, least(steps.len(), ROOM));
     let next = put_first(out, whole, rounds, n as u16);

@@ -5,7 +5,7 @@ use Prim.Native.Nat.{◌-◌, ◌≤◌}
 use native.Mathlib.Numerals.{add-one}
 use native.Mathlib.Omega.{arith}
 use lib.Bits.{bit_or}
-use Rattle.bits.proofs.Matrix.{met, met-fits, summed, summed-is}
+use Rattle.bits.proofs.Matrix.{met, met_fits, summed, summed_is}
 use Rattle.bits.proofs.product.Statement.{statement}
 use Rattle.bits.proofs.product.Tie as tie
 
@@ -29,7 +29,7 @@ shr-row : tie.Need-overflow-shr-row invariant-loop decreases-loop
 shr-row c = search rules
 
 mul-c : tie.Need-overflow-mul-c invariant-loop decreases-loop
-mul-c c = met-fits c.before.before.args.a c.before.before.args.b c.before.loop.k
+mul-c c = met_fits c.before.before.args.a c.before.before.args.b c.before.loop.k
 
 add-k : tie.Need-overflow-add-k invariant-loop decreases-loop
 add-k c = search rules
@@ -44,7 +44,7 @@ loop-again c = (omega arith, rw add-one (ap (λ n. bit_or n (met c.before.before
 returns : tie.Need-returns invariant-loop decreases-loop
 returns c =
     let e : c.before.loop.k ≡ 8 = omega arith in
-    (rw e at c.before.loop.invariant.1) ∙ summed-is _ _
+    (rw e at c.before.loop.invariant.1) ∙ summed_is _ _
 
 pub product-spec : {M : Type 1} → statement M
 product-spec =

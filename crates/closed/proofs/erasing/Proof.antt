@@ -1,6 +1,6 @@
 -- `closed::erasing` meets its contract. Assumes nothing.
 use borrow.Author.Rules.{rules}
-use Rattle.closed.proofs.Told.{erasing-direct, erasing-call}
+use Rattle.closed.proofs.Told.{erasing_direct, erasing_call}
 use Rattle.closed.proofs.erasing.Statement.{statement}
 use Rattle.closed.proofs.erasing.Tie as tie
 
@@ -35,10 +35,10 @@ returns : tie.Need-returns
 returns c = search rules
 
 returns-2 : tie.Need-returns-2
-returns-2 c = rw c.before.before.before.rule.given.1 (erasing-direct _ _ _ c.before.of-symbol.ensures c.composed.ensures)
+returns-2 c = rw c.before.before.before.rule.given.1 (erasing_direct _ _ _ c.before.of-symbol.ensures c.composed.ensures)
 
 returns-3 : tie.Need-returns-3
-returns-3 c = rw c.before.before.before.before.before.rule2.given.1 (erasing-call _ _ _ c.before.before.before.of-symbol2.ensures _ c.before.before.of-symbol3.ensures c.before.composed2.ensures c.composed3.ensures)
+returns-3 c = rw c.before.before.before.before.before.rule2.given.1 (erasing_call _ _ _ c.before.before.before.of-symbol2.ensures _ c.before.before.of-symbol3.ensures c.before.composed2.ensures c.composed3.ensures)
 
 pub erasing-spec : {M : Type 1} → statement M
 erasing-spec =

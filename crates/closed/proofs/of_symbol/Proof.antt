@@ -1,7 +1,7 @@
 -- `closed::of_symbol` meets its contract. Assumes nothing.
 use mathlib.Core.Path.{refl}
 use borrow.Author.Rules.{rules}
-use Rattle.closed.specs.Closed.{ofSymbol}
+use Rattle.closed.specs.Closed.{of_symbol}
 use Rattle.closed.proofs.of_symbol.Statement.{statement}
 use Rattle.closed.proofs.of_symbol.Tie as tie
 
@@ -12,7 +12,7 @@ element-copy-out-result : tie.Need-element-copy-out-result
 element-copy-out-result c = search rules
 
 returns : tie.Need-returns
-unfolding ofSymbol
+unfolding of_symbol
 returns c = refl
 
 pub of-symbol-spec : {M : Type 1} → statement M

@@ -1,6 +1,6 @@
 -- `closed::rule_closed` meets its contract. Assumes nothing.
 use borrow.Author.Rules.{rules}
-use Rattle.closed.proofs.Told.{not-closed, closed-by}
+use Rattle.closed.proofs.Told.{not_closed, closed_by}
 use Rattle.closed.proofs.rule_closed.Statement.{statement}
 use Rattle.closed.proofs.rule_closed.Tie as tie
 
@@ -17,7 +17,7 @@ included-requires : tie.Need-included-requires
 included-requires c κs = search rules
 
 returns : tie.Need-returns
-returns c = not-closed _ _ _ _ c.before.before.before.before.symbol.ensures c.before.before.before.erasing.ensures c.before.before.of-symbol.ensures c.before.included.ensures c.if1.true
+returns c = not_closed _ _ _ _ c.before.before.before.before.symbol.ensures c.before.before.before.erasing.ensures c.before.before.of-symbol.ensures c.before.included.ensures c.if1.true
 
 of-symbol-requires-2 : tie.Need-of-symbol-requires-2
 of-symbol-requires-2 c κs = search rules
@@ -32,8 +32,8 @@ returns-2 : tie.Need-returns-2
 returns-2 c =
     let tops = c.before.before in
     let erased = tops.before.before.before.before in
-    closed-by _ _ _ _ erased.before.symbol.ensures erased.erasing.ensures tops.before.before.before.of-symbol.ensures tops.before.before.included.ensures tops.before.if1.false
-    tops.of-symbol2.ensures c.before.through.ensures c.heads-there.ensures
+    closed_by _ _ _ _ erased.before.symbol.ensures erased.erasing.ensures tops.before.before.before.of-symbol.ensures tops.before.before.included.ensures tops.before.if1.false
+    tops.of-symbol2.ensures c.before.through.ensures c.heads_there.ensures
 
 pub rule-closed-spec : {M : Type 1} → statement M
 rule-closed-spec =

@@ -1,8 +1,8 @@
 -- `culprit::is_clean` meets its contract. Assumes nothing.
-use Rattle.lent.specs.Lending.{productIn}
+use Rattle.lent.specs.Lending.{product_in}
 use borrow.Author.Rules.{rules}
-use Rattle.culprit.specs.Culprit.{culpritIn}
-use Rattle.culprit.proofs.Asked.{goal-nothing, goal-something}
+use Rattle.culprit.specs.Culprit.{culprit_in}
+use Rattle.culprit.proofs.Asked.{goal_nothing, goal_something}
 use Rattle.culprit.proofs.is_clean.Statement.{statement}
 use Rattle.culprit.proofs.is_clean.Tie as tie
 
@@ -18,12 +18,12 @@ enum-told-2 c = search rules
 returns : tie.Need-returns
 returns c =
     let a = c.before.before.before.before.before.args in
-    goal-nothing (culpritIn (productIn a.m.now).final a.size.symbols a.size.states a.heads.now a.triples.now a.s a.a) c.before.before.culprit.ensures c.enum_told.given.1
+    goal_nothing (culprit_in (product_in a.m.now).final a.size.symbols a.size.states a.heads.now a.triples.now a.s a.a) c.before.before.culprit.ensures c.enum_told.given.1
 
 returns-2 : tie.Need-returns-2
 returns-2 c =
     let a = c.before.before.before.before.before.args in
-    goal-something (culpritIn (productIn a.m.now).final a.size.symbols a.size.states a.heads.now a.triples.now a.s a.a) c.before.before.culprit.ensures c.enum-told2.given.1
+    goal_something (culprit_in (product_in a.m.now).final a.size.symbols a.size.states a.heads.now a.triples.now a.s a.a) c.before.before.culprit.ensures c.enum-told2.given.1
 
 pub is-clean-spec : {M : Type 1} → statement M
 is-clean-spec =

@@ -1,7 +1,7 @@
 -- `decide::decide` meets its contract: the tests, and then the rounds. Assumes nothing.
 use borrow.Author.Rules.{rules}
-use Rattle.lent.specs.Lending.{modelIn}
-use Rattle.decide.proofs.Tested.{invalid, short, able, done, able-read, ran-read}
+use Rattle.lent.specs.Lending.{model_in}
+use Rattle.decide.proofs.Tested.{invalid, short, able, done, able_read, ran_read}
 use Rattle.decide.proofs.decide.Statement.{statement}
 use Rattle.decide.proofs.decide.Tie as tie
 
@@ -12,13 +12,13 @@ returns : tie.Need-returns
 returns c =
     let measured = c.before.before in
     let a = measured.before.before.before.args in
-    invalid (modelIn a.m.now) a.budget a.heads.now a.triples.now measured.measure.ensures c.if1.true
+    invalid (model_in a.m.now) a.budget a.heads.now a.triples.now measured.measure.ensures c.if1.true
 
 returns-2 : tie.Need-returns-2
 returns-2 c =
     let measured = c.before.before.before.before in
     let a = measured.before.before.before.args in
-    short (modelIn a.m.now) a.budget a.heads.now a.triples.now measured.measure.ensures c.if2.true
+    short (model_in a.m.now) a.budget a.heads.now a.triples.now measured.measure.ensures c.if2.true
 
 shape-requires : tie.Need-shape-requires
 shape-requires c κs = search rules
@@ -31,8 +31,8 @@ run-requires c κs =
     let measured = one.before.before in
     let a = measured.before.before.before.args in (
       read.shape.ensures,
-      able-read a.m.now read.shape.ensures a.heads.now a.triples.now
-          (able (modelIn a.m.now) a.budget a.heads.now a.triples.now measured.measure.ensures one.if1.false two.if2.false),
+      able_read a.m.now read.shape.ensures a.heads.now a.triples.now
+          (able (model_in a.m.now) a.budget a.heads.now a.triples.now measured.measure.ensures one.if1.false two.if2.false),
     )
 
 same_length : tie.Need-same-length
@@ -49,8 +49,8 @@ returns-3 c =
     let one = two.before.before in
     let measured = one.before.before in
     let a = measured.before.before.before.args in
-    done (modelIn a.m.now) a.budget a.heads.now a.triples.now measured.measure.ensures one.if1.false two.if2.false
-    (ran-read a.m.now read.shape.ensures a.heads.now a.triples.now went.run.ensures)
+    done (model_in a.m.now) a.budget a.heads.now a.triples.now measured.measure.ensures one.if1.false two.if2.false
+    (ran_read a.m.now read.shape.ensures a.heads.now a.triples.now went.run.ensures)
 
 pub decide-spec : {M : Type 1} → statement M
 decide-spec =

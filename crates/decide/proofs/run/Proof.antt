@@ -1,12 +1,12 @@
 -- `decide::run` meets its contract: the start of the rounds, and what they leave. Assumes nothing.
 use mathlib.Core.Path.{sym, ◌∙◌}
 use borrow.Author.Rules.{rules}
-use Rattle.model.proofs.Valid.{valid-sizes}
-use Rattle.lent.specs.Lending.{ofLent, modelIn}
-use Rattle.decide.proofs.Emptied.{empty-first}
+use Rattle.model.proofs.Valid.{valid_sizes}
+use Rattle.lent.specs.Lending.{of_lent, model_in}
+use Rattle.decide.proofs.Emptied.{empty_first}
 use Rattle.steps.proofs.Rows.{lies}
-use Rattle.decide.proofs.Tested.{steps-read}
-use Rattle.decide.proofs.Starting.{symbol-in, driving, heads-same, triples-same, ran}
+use Rattle.decide.proofs.Tested.{steps_read}
+use Rattle.decide.proofs.Starting.{symbol_in, driving, heads_same, triples_same, ran}
 use Rattle.decide.proofs.run.Statement.{statement}
 use Rattle.decide.proofs.run.Tie as tie
 
@@ -20,15 +20,15 @@ class-steps-requires : tie.Need-class-steps-requires
 class-steps-requires c κs = search rules
 
 first-rules-requires : tie.Need-first-rules-requires
-unfolding modelIn
+unfolding model_in
 first-rules-requires c κs =
     let goal = c.before.before.before.before.before.before.before.before.before in
     let s = goal.before.before.before in
-    let v = s.requires.1.valid-model in
-    ((valid-sizes _ v).rules, (symbol-in _ v (lies _ s.args.m.now) goal.goal-of.ensures, empty-first 384))
+    let v = s.requires.1.valid_model in
+    ((valid_sizes _ v).rules, (symbol_in _ v (lies _ s.args.m.now) goal.goal-of.ensures, empty_first 384))
 
 run-requires : tie.Need-run-requires
-unfolding modelIn
+unfolding model_in
 run-requires c κs =
     let built = c.before.before.before.before in
     let made = built.before.before in
@@ -36,12 +36,12 @@ run-requires c κs =
     let goal = begun.before.before.before in
     let s = goal.before.before.before in
     let cells = s.args.m.now in
-    let m = ofLent s.args.shape cells in
-    let tg-is = made.class-steps.ensures ∙ sym (steps-read cells s.requires.0) in
-    driving m s.requires.1.valid-model (lies _ cells) s.requires.1 goal.goal-of.ensures begun.start.ensures built.first-rules.ensures tg-is
+    let m = of_lent s.args.shape cells in
+    let tg-is = made.class_steps_lem.ensures ∙ sym (steps_read cells s.requires.0) in
+    driving m s.requires.1.valid_model (lies _ cells) s.requires.1 goal.goal-of.ensures begun.start.ensures built.first-rules.ensures tg-is
 
 same_length : tie.Need-same-length
-unfolding modelIn
+unfolding model_in
 same_length c =
     let ran = c.before.before.before.before in
     let built = ran.before.before.before.before.before in
@@ -50,12 +50,12 @@ same_length c =
     let goal = begun.before.before.before in
     let s = goal.before.before.before in
     let cells = s.args.m.now in
-    let m = ofLent s.args.shape cells in
-    let tg-is = made.class-steps.ensures ∙ sym (steps-read cells s.requires.0) in
-    heads-same m s.requires.1.valid-model (lies _ cells) s.requires.1 goal.goal-of.ensures begun.start.ensures built.first-rules.ensures tg-is ran.run.ensures
+    let m = of_lent s.args.shape cells in
+    let tg-is = made.class_steps_lem.ensures ∙ sym (steps_read cells s.requires.0) in
+    heads_same m s.requires.1.valid_model (lies _ cells) s.requires.1 goal.goal-of.ensures begun.start.ensures built.first-rules.ensures tg-is ran.run.ensures
 
 same-length-2 : tie.Need-same-length-2
-unfolding modelIn
+unfolding model_in
 same-length-2 c =
     let ran = c.before.before.before.before in
     let built = ran.before.before.before.before.before in
@@ -64,12 +64,12 @@ same-length-2 c =
     let goal = begun.before.before.before in
     let s = goal.before.before.before in
     let cells = s.args.m.now in
-    let m = ofLent s.args.shape cells in
-    let tg-is = made.class-steps.ensures ∙ sym (steps-read cells s.requires.0) in
-    triples-same m s.requires.1.valid-model (lies _ cells) s.requires.1 goal.goal-of.ensures begun.start.ensures built.first-rules.ensures tg-is ran.run.ensures
+    let m = of_lent s.args.shape cells in
+    let tg-is = made.class_steps_lem.ensures ∙ sym (steps_read cells s.requires.0) in
+    triples_same m s.requires.1.valid_model (lies _ cells) s.requires.1 goal.goal-of.ensures begun.start.ensures built.first-rules.ensures tg-is ran.run.ensures
 
 returns : tie.Need-returns
-unfolding modelIn
+unfolding model_in
 returns c =
     let went = c.before.before.before.before in
     let built = went.before.before.before.before.before in
@@ -78,9 +78,9 @@ returns c =
     let goal = begun.before.before.before in
     let s = goal.before.before.before in
     let cells = s.args.m.now in
-    let m = ofLent s.args.shape cells in
-    let tg-is = made.class-steps.ensures ∙ sym (steps-read cells s.requires.0) in
-    ran m s.requires.1.valid-model (lies _ cells) s.requires.1 goal.goal-of.ensures begun.start.ensures built.first-rules.ensures tg-is went.run.ensures
+    let m = of_lent s.args.shape cells in
+    let tg-is = made.class_steps_lem.ensures ∙ sym (steps_read cells s.requires.0) in
+    ran m s.requires.1.valid_model (lies _ cells) s.requires.1 goal.goal-of.ensures begun.start.ensures built.first-rules.ensures tg-is went.run.ensures
 
 pub run_spec : {M : Type 1} → statement M
 run_spec =

@@ -1,7 +1,7 @@
 -- `decide::start` meets its contract. Assumes nothing.
 use Rattle.product.specs.Facts.{head}
-use Rattle.table.proofs.Places.{fact-put}
-use Rattle.decide.proofs.Starting.{started-is}
+use Rattle.table.proofs.Places.{fact_put}
+use Rattle.decide.proofs.Starting.{started_is}
 use borrow.Author.Rules.{rules}
 use Rattle.decide.proofs.start.Statement.{statement}
 use Rattle.decide.proofs.start.Tie as tie
@@ -37,8 +37,8 @@ returns c =
     let triples = place.before.before.before in
     let heads = triples.before.before.before.before.before in
     let a = heads.before.before.before.before.before.args in
-    started-is _ _ _ _ _ heads.before.head-count.ensures triples.before.triple-count.ensures heads.clear.new.0 heads.clear.ensures triples.clear2.ensures
-    (fact-put a.size.symbols a.size.states _ (head a.q a.g) place.place-of.ensures _ put.put.ensures)
+    started_is _ _ _ _ _ heads.before.head_count_lem.ensures triples.before.triple_count_lem.ensures heads.clear.new.0 heads.clear.ensures triples.clear2.ensures
+    (fact_put a.size.symbols a.size.states _ (head a.q a.g) place.place_of_lem.ensures _ put.put.ensures)
 
 pub start_spec : {M : Type 1} → statement M
 start_spec =

@@ -72,7 +72,7 @@ returns-8 : tie.Need-returns-8
 returns-8 c = rw c.before.enum-told8.given.1 (c.with-rule3.ensures 2 c.before.before.before.before.args.l.numbers)
 
 returns-9 : tie.Need-returns-9
-returns-9 c = rw c.before.enum-told9.given.1 (c.with-move.ensures c.before.before.before.before.args.l.numbers)
+returns-9 c = rw c.before.enum-told9.given.1 (c.with_move_lem.ensures c.before.before.before.before.args.l.numbers)
 
 pub outline-after-spec : {M : Type 1} → statement M
 outline-after-spec =

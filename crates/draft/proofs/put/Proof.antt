@@ -105,7 +105,7 @@ returns-8 : tie.Need-returns-8
 returns-8 c = rw c.before.before.enum-told8.given.1 c.put-rule3.ensures
 
 returns-9 : tie.Need-returns-9
-returns-9 c = rw c.before.before.enum-told9.given.1 c.put-move.ensures
+returns-9 c = rw c.before.before.enum-told9.given.1 c.put_move.ensures
 
 pub put_spec : {M : Type 1} → statement M
 put_spec =

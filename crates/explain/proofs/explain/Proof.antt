@@ -1,7 +1,7 @@
 -- `explain::explain` meets its contract. Assumes nothing.
 use native.Mathlib.Omega.{arith}
-use Rattle.explain.specs.Answers.{tableIn, searchIn}
-use Rattle.explain.proofs.Tried.{asked-none, asked-start, asked-ranked}
+use Rattle.explain.specs.Answers.{table_in, search_in}
+use Rattle.explain.proofs.Tried.{asked_none, asked_start, asked_ranked}
 use Rattle.explain.proofs.explain.Statement.{statement}
 use Rattle.explain.proofs.explain.Tie as tie
 
@@ -12,13 +12,13 @@ enum_told : tie.Need-enum-told
 enum_told c = c.match.keys2
 
 returns : tie.Need-returns
-returns c = asked-none _ _ c.enum_told.given.1
+returns c = asked_none _ _ c.enum_told.given.1
 
 rank-at-requires : tie.Need-rank-at-requires
 rank-at-requires c κs = tt
 
 returns-2 : tie.Need-returns-2
-returns-2 c = asked-start _ _ c.before.before.before.before.f.given.1 c.before.rank-at.ensures c.if1.true
+returns-2 c = asked_start _ _ c.before.before.before.before.f.given.1 c.before.rank_at.ensures c.if1.true
 
 sub-first-cause : tie.Need-overflow-sub-first-cause
 sub-first-cause c = omega arith
@@ -31,7 +31,7 @@ returns-3 c =
     let ranked = c.before.before in
     let told = ranked.before.before.before in
     let a = told.before.before.before.before.args in
-    asked-ranked (searchIn a.m.now a.n a.heads.now a.triples.now) (tableIn a.n a.heads.now a.triples.now) told.f.given.1 ranked.rank-at.ensures c.before.if1.false c.first-cause.ensures
+    asked_ranked (search_in a.m.now a.n a.heads.now a.triples.now) (table_in a.n a.heads.now a.triples.now) told.f.given.1 ranked.rank_at.ensures c.before.if1.false c.first-cause.ensures
 
 pub explain-spec : {M : Type 1} → statement M
 explain-spec = tie.close (tie.spec enum-known-f enum_told returns rank-at-requires returns-2 sub-first-cause first-cause-requires returns-3)

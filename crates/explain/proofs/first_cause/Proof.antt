@@ -1,15 +1,15 @@
 -- `explain::first_cause` meets its contract. The invariant of each loop is that nothing was found below its number; what is found first leaves all three. The rules,
 -- moves and states that are left fall. Assumes nothing.
 use borrow.Author.Rules.{rules}
-use Rattle.lent.specs.Lending.{productIn}
+use Rattle.lent.specs.Lending.{product_in}
 use Rattle.table.specs.Places.{fact_of}
 use Rattle.product.specs.Facts.{Fact, Way}
 use Rattle.explain.specs.declared.Ask.{Ask}
 use Rattle.culprit.specs.First.{first_of}
-use Rattle.explain.specs.Search.{below, tried_at, byMove, byRule}
-use Rattle.explain.specs.Answers.{foundAs}
-use Rattle.culprit.proofs.First.{first-none, first_more, first_done}
-use Rattle.explain.proofs.Tried.{found_none, search-here}
+use Rattle.explain.specs.Search.{below, tried_at, way_by_move, way_by_rule}
+use Rattle.explain.specs.Answers.{found_as}
+use Rattle.culprit.proofs.First.{first_none, first_more, first_done}
+use Rattle.explain.proofs.Tried.{found_none, search_here}
 use mathlib.Core.Bool.{Bool}
 use mathlib.Core.List.{List}
 use mathlib.Core.Option.{Option, none}
@@ -25,13 +25,13 @@ module _ (m hs ts : List ℕ) (ask : Ask) where
   lows = below ask.size.symbols ask.size.states hs ts (suc ask.k)
 
   abbrev tries : (r v x : ℕ) → Option Way
-  tries = tried_at (productIn m) lows (fact_of ask.f)
+  tries = tried_at (product_in m) lows (fact_of ask.f)
 
   abbrev moves : (r v : ℕ) → Option Way
-  moves = byMove (productIn m) lows (fact_of ask.f) ask.size.states
+  moves = way_by_move (product_in m) lows (fact_of ask.f) ask.size.states
 
   abbrev rules : (moveCount r : ℕ) → Option Way
-  rules moveCount = byRule (productIn m) lows (fact_of ask.f) moveCount ask.size.states
+  rules moveCount = way_by_rule (product_in m) lows (fact_of ask.f) moveCount ask.size.states
 
 abbrev invariant-states : tie.invariant-states
 invariant-states m heads triples k states ruleCount moveCount ask r v x₀ x = (x ≤ ask.size.states) × (first_of (tries m heads triples ask r v) x ≡ none)
@@ -55,13 +55,13 @@ cast-states : tie.Need-overflow-cast-states invariant-states decreases-states in
 cast-states c = search rules
 
 found-holds : tie.Need-found-init invariant-states decreases-states invariant-moves decreases-moves invariant-found decreases-found
-found-holds c = (omega arith, first-none _)
+found-holds c = (omega arith, first_none _)
 
 moves-holds : tie.Need-moves-init invariant-states decreases-states invariant-moves decreases-moves invariant-found decreases-found
-moves-holds c = (omega arith, first-none _)
+moves-holds c = (omega arith, first_none _)
 
 states-holds : tie.Need-states-init invariant-states decreases-states invariant-moves decreases-moves invariant-found decreases-found
-states-holds c = (omega arith, first-none _)
+states-holds c = (omega arith, first_none _)
 
 tried-requires : tie.Need-tried-requires invariant-states decreases-states invariant-moves decreases-moves invariant-found decreases-found
 tried-requires c κs = tt
@@ -109,7 +109,7 @@ found-again c =
     (omega arith, first_more _ _ found.invariant.1 (first_done _ _ _ moves.invariant.0 (omega arith) moves.invariant.1))
 
 returns : tie.Need-returns invariant-states decreases-states invariant-moves decreases-moves invariant-found decreases-found
-returns c = sym (ap foundAs (first_done _ _ _ c.before.found.invariant.0 c.if1.true c.before.found.invariant.1))
+returns c = sym (ap found_as (first_done _ _ _ c.before.found.invariant.0 c.if1.true c.before.found.invariant.1))
 
 returns-2 : tie.Need-returns-2 invariant-states decreases-states invariant-moves decreases-moves invariant-found decreases-found
 returns-2 c =
@@ -119,7 +119,7 @@ returns-2 c =
     let found = moves.before.before in
     let a = found.before.before.before.before.before.args in
     let h = below a.n.size.symbols a.n.size.states a.heads.now a.triples.now (suc a.k) in
-    search-here (productIn a.m.now) h (fact_of a.f) a.n.rules a.n.moves a.n.size.states found.found.r moves.moves.v states.states.x
+    search_here (product_in a.m.now) h (fact_of a.f) a.n.rules a.n.moves a.n.size.states found.found.r moves.moves.v states.states.x
     (omega arith) found.found.invariant.1 (omega arith) moves.moves.invariant.1 (omega arith) states.states.invariant.1 call.tried.ensures c.before.w.given.1
 
 pub first-cause-spec : {M : Type 1} → statement M

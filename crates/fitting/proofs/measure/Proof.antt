@@ -3,8 +3,8 @@ use mathlib.Core.Path.{sym, ◌∙◌}
 use native.Mathlib.Omega.{arith}
 use borrow.Author.Rules.{rules}
 use Rattle.model.proofs.Counted.{passed, failed}
-use Rattle.lent.specs.Lending.{modelIn}
-use Rattle.fitting.proofs.Tested.{tested-invalid, tested-heads, tested-triples, fits-well, heads-read, triples-read, fit-read}
+use Rattle.lent.specs.Lending.{model_in}
+use Rattle.fitting.proofs.Tested.{tested_invalid, tested_heads, tested_triples, fits_well, heads_read, triples_read, fit_read}
 use Rattle.fitting.proofs.measure.Statement.{statement}
 use Rattle.fitting.proofs.measure.Tie as tie
 
@@ -18,7 +18,7 @@ returns : tie.Need-returns
 returns c =
     let checked = c.before.before in
     let a = checked.before.args in
-    c.refused.ensures ∙ sym (tested-invalid (modelIn a.m.now) a.heads a.triples (failed checked.is-valid.ensures c.before.if1.true) _ _ _)
+    c.refused.ensures ∙ sym (tested_invalid (model_in a.m.now) a.heads a.triples (failed checked.is_valid.ensures c.before.if1.true) _ _ _)
 
 size-of-requires : tie.Need-size-of-requires
 size-of-requires c κs = search rules
@@ -38,9 +38,9 @@ returns-2 c =
     let sized = counted.before.before in
     let checked = sized.before.before in
     let a = checked.before.args in
-    let m = modelIn a.m.now in
-    let ok = passed checked.is-valid.ensures sized.before.if1.false in
-    c.refused2.ensures ∙ sym (tested-heads m a.heads a.triples ok (omega (arith, (heads-read m sized.size-of.ensures counted.before.head-count.ensures))) _ _ _)
+    let m = model_in a.m.now in
+    let ok = passed checked.is_valid.ensures sized.before.if1.false in
+    c.refused2.ensures ∙ sym (tested_heads m a.heads a.triples ok (omega (arith, (heads_read m sized.size_of_lem.ensures counted.before.head_count_lem.ensures))) _ _ _)
 
 refused-requires-3 : tie.Need-refused-requires-3
 refused-requires-3 c κs = search rules
@@ -51,9 +51,9 @@ returns-3 c =
     let sized = counted.before.before in
     let checked = sized.before.before in
     let a = checked.before.args in
-    let m = modelIn a.m.now in
-    let ok = passed checked.is-valid.ensures sized.before.if1.false in
-    c.refused3.ensures ∙ sym (tested-triples m a.heads a.triples ok (omega (arith, (heads-read m sized.size-of.ensures counted.before.head-count.ensures))) (omega (arith, (triples-read m sized.size-of.ensures counted.triple-count.ensures))) _ _ _)
+    let m = model_in a.m.now in
+    let ok = passed checked.is_valid.ensures sized.before.if1.false in
+    c.refused3.ensures ∙ sym (tested_triples m a.heads a.triples ok (omega (arith, (heads_read m sized.size_of_lem.ensures counted.before.head_count_lem.ensures))) (omega (arith, (triples_read m sized.size_of_lem.ensures counted.triple_count_lem.ensures))) _ _ _)
 
 returns-4 : tie.Need-returns-4
 returns-4 c =
@@ -61,10 +61,10 @@ returns-4 c =
     let sized = counted.before.before in
     let checked = sized.before.before in
     let a = checked.before.args in
-    let m = modelIn a.m.now in
-    let ok = passed checked.is-valid.ensures sized.before.if1.false in
-    fit-read m sized.size-of.ensures (heads-read m sized.size-of.ensures counted.before.head-count.ensures) (triples-read m sized.size-of.ensures counted.triple-count.ensures)
-    ∙ sym (fits-well m a.heads a.triples ok (omega (arith, (heads-read m sized.size-of.ensures counted.before.head-count.ensures))) (omega (arith, (triples-read m sized.size-of.ensures counted.triple-count.ensures))) _ _ _)
+    let m = model_in a.m.now in
+    let ok = passed checked.is_valid.ensures sized.before.if1.false in
+    fit_read m sized.size_of_lem.ensures (heads_read m sized.size_of_lem.ensures counted.before.head_count_lem.ensures) (triples_read m sized.size_of_lem.ensures counted.triple_count_lem.ensures)
+    ∙ sym (fits_well m a.heads a.triples ok (omega (arith, (heads_read m sized.size_of_lem.ensures counted.before.head_count_lem.ensures))) (omega (arith, (triples_read m sized.size_of_lem.ensures counted.triple_count_lem.ensures))) _ _ _)
 
 pub measure-spec : {M : Type 1} → statement M
 measure-spec =

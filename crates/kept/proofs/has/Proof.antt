@@ -11,7 +11,7 @@ rank-at-requires : tie.Need-rank-at-requires
 rank-at-requires c κs = search rules
 
 returns : tie.Need-returns
-returns c = ap (λ n. not (eqb n absent)) c.rank-at.ensures
+returns c = ap (λ n. not (eqb n absent)) c.rank_at.ensures
 
 pub has-spec : {M : Type 1} → statement M
 has-spec = tie.close (tie.spec rank-at-requires returns)

@@ -14,7 +14,7 @@ both-pass-requires : tie.Need-both-pass-requires
 both-pass-requires c κs = search rules
 
 returns-2 : tie.Need-returns-2
-returns-2 c = rw (passed c.before.before.has.ensures c.before.if1.false) c.both-pass.ensures
+returns-2 c = rw (passed c.before.before.has.ensures c.before.if1.false) c.both_pass_lem.ensures
 
 pub return-passes-spec : {M : Type 1} → statement M
 return-passes-spec = tie.close (tie.spec has-requires returns both-pass-requires returns-2)

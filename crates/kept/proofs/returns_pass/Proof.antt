@@ -5,12 +5,12 @@ use Prim.Native.Nat.{◌-◌, ◌≤◌}
 use borrow.Author.Rules.{rules}
 use Rattle.product.specs.Lists.{up_to, all}
 use Rattle.model.proofs.Counted.{more, stop, done}
-use Rattle.kept.specs.Kept.{in_table, returnPasses}
+use Rattle.kept.specs.Kept.{in_table, return_passes}
 use Rattle.kept.proofs.returns_pass.Statement.{statement}
 use Rattle.kept.proofs.returns_pass.Tie as tie
 
 abbrev invariant-loop : tie.invariant-loop
-invariant-loop heads triples size leg g2 e₀ e = (e ≤ size.states) × (all (returnPasses size.states (in_table size heads triples) leg.q leg.g leg.q2 leg.g1 g2) (up_to e) ≡ true)
+invariant-loop heads triples size leg g2 e₀ e = (e ≤ size.states) × (all (return_passes size.states (in_table size heads triples) leg.q leg.g leg.q2 leg.g1 g2) (up_to e) ≡ true)
 
 abbrev decreases-loop : tie.decreases-loop
 decreases-loop heads triples size leg g2 e₀ e = size.states - e
@@ -29,7 +29,7 @@ returns c =
     let turn = c.before.before.before.before in
     let a = turn.before.before.before.args in
     let t = in_table a.size a.heads.now a.triples.now in
-    let p = returnPasses a.size.states t a.leg.q a.leg.g a.leg.q2 a.leg.g1 a.g2 in
+    let p = return_passes a.size.states t a.leg.q a.leg.g a.leg.q2 a.leg.g1 a.g2 in
     stop p turn.loop.e c.before.return-passes.ensures a.size.states (search rules) c.if2.true
 
 add-e : tie.Need-overflow-add-e invariant-loop decreases-loop
@@ -43,7 +43,7 @@ loop-again c =
     let turn = c.before.before.before.before in
     let a = turn.before.before.before.args in
     let t = in_table a.size a.heads.now a.triples.now in
-    let p = returnPasses a.size.states t a.leg.q a.leg.g a.leg.q2 a.leg.g1 a.g2 in
+    let p = return_passes a.size.states t a.leg.q a.leg.g a.leg.q2 a.leg.g1 a.g2 in
     (search rules, more p turn.loop.e c.before.return-passes.ensures turn.loop.invariant.1 c.if2.false)
 
 returns-2 : tie.Need-returns-2 invariant-loop decreases-loop
@@ -51,7 +51,7 @@ returns-2 c =
     let turn = c.before.before in
     let a = turn.before.before.before.args in
     let t = in_table a.size a.heads.now a.triples.now in
-    let p = returnPasses a.size.states t a.leg.q a.leg.g a.leg.q2 a.leg.g1 a.g2 in
+    let p = return_passes a.size.states t a.leg.q a.leg.g a.leg.q2 a.leg.g1 a.g2 in
     done p turn.loop.invariant.0 (search rules) turn.loop.invariant.1
 
 pub returns-pass-spec : {M : Type 1} → statement M

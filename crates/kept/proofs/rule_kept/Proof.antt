@@ -32,7 +32,7 @@ returns-2 : tie.Need-returns-2
 returns-2 c = rw c.before.before.rule.given.1 c.has.ensures
 
 returns-3 : tie.Need-returns-3
-returns-3 c = rw c.before.before.rule2.given.1 c.both-pass.ensures
+returns-3 c = rw c.before.before.rule2.given.1 c.both_pass_lem.ensures
 
 returns-4 : tie.Need-returns-4
 returns-4 c = rw (c.before.before.before.before.rule3.given.1, passed c.before.before.passes.ensures c.before.if1.false) c.returns-pass.ensures

@@ -1,6 +1,6 @@
 -- `lent::row_at` meets its contract. Assumes nothing.
 use borrow.Author.Rules.{rules}
-use Rattle.lent.proofs.Parts.{no_row, row-cells}
+use Rattle.lent.proofs.Parts.{no_row, row_cells}
 use Rattle.lent.proofs.row_at.Statement.{statement}
 use Rattle.lent.proofs.row_at.Tie as tie
 
@@ -35,7 +35,7 @@ returns-2 : tie.Need-returns-2
 returns-2 c =
     let tested = c.before.before.before.before in
     let a = tested.before.args in
-    row-cells a.m.now a.r tested.if1.false
+    row_cells a.m.now a.r tested.if1.false
 
 pub row-at-spec : {M : Type 1} → statement M
 row-at-spec =

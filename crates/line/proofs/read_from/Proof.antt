@@ -1,5 +1,5 @@
 -- `line::read_from` meets its contract (Behind). Assumes nothing.
-use Rattle.line.proofs.Behind.{from_past, end-within, from-there}
+use Rattle.line.proofs.Behind.{from_past, end_within, from_there}
 use borrow.Author.Rules.{rules}
 use native.Mathlib.Omega.{arith}
 use Rattle.line.proofs.read_from.Statement.{statement}
@@ -28,14 +28,14 @@ add-t6 c =
     let f = c.before.before in
     let on = f.before.before in
     let a = on.before.before.args in
-    omega (arith, end-within a.s.now a.b on.if1.false f.read-fields.ensures)
+    omega (arith, end_within a.s.now a.b on.if1.false f.read_fields.ensures)
 
 returns-2 : tie.Need-returns-2
 returns-2 c =
     let f = c.before.before in
     let on = f.before.before in
     let a = on.before.before.args in
-    from-there a.s.now a.b on.if1.false f.read-fields.ensures
+    from_there a.s.now a.b on.if1.false f.read_fields.ensures
 
 pub read-from-spec : {M : Type 1} → statement M
 read-from-spec = tie.close (tie.spec find-requires returns sub-read-fields part-read-fields-start part-read-fields-end read-fields-requires add-t6 returns-2)

@@ -1,7 +1,7 @@
 -- `line::spells` meets its contract, by the byte behind the word (Spelled). Assumes nothing.
 use mathlib.Core.Path.{sym, ◌∙◌}
 use lib.Seq.{length-take-le}
-use Rattle.line.proofs.Spelled.{too_short, no-tab, tabbed}
+use Rattle.line.proofs.Spelled.{too_short, no_tab, tabbed}
 use borrow.Author.Rules.{rules}
 use native.Mathlib.Omega.{arith}
 use Rattle.line.proofs.spells.Statement.{statement}
@@ -14,7 +14,7 @@ shared-slice-read-if2 : tie.Need-shared-slice-read-if2
 shared-slice-read-if2 c = search rules
 
 returns-2 : tie.Need-returns-2
-returns-2 c = let past = c.before.before in let a = past.before.before.before.args in no-tab a.s.now a.word.now c.if2.true
+returns-2 c = let past = c.before.before in let a = past.before.before.before.args in no_tab a.s.now a.word.now c.if2.true
 
 slice-aggregate-same : tie.Need-slice-aggregate-same
 slice-aggregate-same c = let past = c.before.before.before in sym (length-take-le _ past.before.before.before.args.s.now (omega (arith, past.if1.false)))

@@ -1,8 +1,8 @@
 -- `listing::read_listing` meets its contract. Assumes nothing.
 use native.Mathlib.Omega.{arith}
 use borrow.Author.Rules.{rules}
-use Rattle.lent.specs.Lending.{modelIn}
-use Rattle.listing.proofs.Cases.{invalid-reads, short-reads, lines_after, heads-within, triples-within, heads-few, triples-few, refused-after, accepted-after}
+use Rattle.lent.specs.Lending.{model_in}
+use Rattle.listing.proofs.Cases.{invalid_reads, short_reads, lines_after, heads_within, triples_within, heads_few, triples_few, refused_after, accepted_after}
 use Rattle.listing.proofs.read_listing.Statement.{statement}
 use Rattle.listing.proofs.read_listing.Tie as tie
 
@@ -13,13 +13,13 @@ returns : tie.Need-returns
 returns c =
     let measured = c.before.before in
     let a = measured.before.before.before.before.args in
-    invalid-reads (modelIn a.m.now) a.text.now a.heads.now a.triples.now measured.measure.ensures c.if1.true
+    invalid_reads (model_in a.m.now) a.text.now a.heads.now a.triples.now measured.measure.ensures c.if1.true
 
 returns-2 : tie.Need-returns-2
 returns-2 c =
     let measured = c.before.before.before.before in
     let a = measured.before.before.before.before.args in
-    short-reads (modelIn a.m.now) a.text.now a.heads.now a.triples.now measured.measure.ensures c.if2.true
+    short_reads (model_in a.m.now) a.text.now a.heads.now a.triples.now measured.measure.ensures c.if2.true
 
 slice-aggregate-read-text : tie.Need-slice-aggregate-read-text
 slice-aggregate-read-text c = search rules
@@ -41,9 +41,9 @@ returns-3 c =
     let one = two.before.before in
     let measured = one.before.before in
     let a = measured.before.before.before.before.args in
-    let m = modelIn a.m.now in
-    refused-after m a.text.now a.heads.now a.triples.now measured.measure.ensures one.if1.false two.if2.false
-    (lines_after m a.text.now a.heads.now a.triples.now measured.measure.ensures one.if1.false two.if2.false read.read-text.ensures) c.before.if3.true c.IsRefused-as.ensures
+    let m = model_in a.m.now in
+    refused_after m a.text.now a.heads.now a.triples.now measured.measure.ensures one.if1.false two.if2.false
+    (lines_after m a.text.now a.heads.now a.triples.now measured.measure.ensures one.if1.false two.if2.false read.read_text_lem.ensures) c.before.if3.true c.IsRefused-as.ensures
 
 slice-aggregate-copy : tie.Need-slice-aggregate-copy
 slice-aggregate-copy c = search rules
@@ -56,8 +56,8 @@ copy-requires c κs =
     let one = two.before.before in
     let measured = one.before.before in
     let a = measured.before.before.before.before.args in
-    let m = modelIn a.m.now in
-    (omega (arith, heads-few m a.text.now a.heads.now a.triples.now measured.measure.ensures one.if1.false two.if2.false, slice-aggregate-copy c.before), heads-within m a.text.now a.heads.now a.triples.now measured.measure.ensures one.if1.false two.if2.false)
+    let m = model_in a.m.now in
+    (omega (arith, heads_few m a.text.now a.heads.now a.triples.now measured.measure.ensures one.if1.false two.if2.false, slice-aggregate-copy c.before), heads_within m a.text.now a.heads.now a.triples.now measured.measure.ensures one.if1.false two.if2.false)
 
 slice-aggregate-copy-2 : tie.Need-slice-aggregate-copy-2
 slice-aggregate-copy-2 c = search rules
@@ -70,8 +70,8 @@ copy-requires-2 c κs =
     let one = two.before.before in
     let measured = one.before.before in
     let a = measured.before.before.before.before.args in
-    let m = modelIn a.m.now in
-    (omega (arith, triples-few m a.text.now a.heads.now a.triples.now measured.measure.ensures one.if1.false two.if2.false, slice-aggregate-copy-2 c.before), triples-within m a.text.now a.heads.now a.triples.now measured.measure.ensures one.if1.false two.if2.false)
+    let m = model_in a.m.now in
+    (omega (arith, triples_few m a.text.now a.heads.now a.triples.now measured.measure.ensures one.if1.false two.if2.false, slice-aggregate-copy-2 c.before), triples_within m a.text.now a.heads.now a.triples.now measured.measure.ensures one.if1.false two.if2.false)
 
 same_length : tie.Need-same-length
 same_length c = search rules
@@ -90,9 +90,9 @@ returns-4 c =
     let one = two.before.before in
     let measured = one.before.before in
     let a = measured.before.before.before.before.args in
-    let m = modelIn a.m.now in
-    accepted-after m a.text.now a.heads.now a.triples.now measured.measure.ensures one.if1.false two.if2.false
-    (lines_after m a.text.now a.heads.now a.triples.now measured.measure.ensures one.if1.false two.if2.false read.read-text.ensures) tested.if3.false first.copy.ensures second.copy2.ensures
+    let m = model_in a.m.now in
+    accepted_after m a.text.now a.heads.now a.triples.now measured.measure.ensures one.if1.false two.if2.false
+    (lines_after m a.text.now a.heads.now a.triples.now measured.measure.ensures one.if1.false two.if2.false read.read_text_lem.ensures) tested.if3.false first.copy.ensures second.copy2.ensures
 
 pub read-listing-spec : {M : Type 1} → statement M
 read-listing-spec = tie.close (tie.spec measure-requires returns returns-2 slice-aggregate-read-text slice-aggregate-read-text-2 read-text-requires refused-as-requires returns-3 slice-aggregate-copy copy-requires slice-aggregate-copy-2 copy-requires-2 same_length same-length-2 returns-4)

@@ -12,7 +12,7 @@ read-from-requires : tie.Need-read-from-requires
 read-from-requires c κs = tt
 
 returns : tie.Need-returns
-returns c = let w = c.before.before in ap (λ (f : FieldsRead). ended (said w.word_of.result.0 f.numbers) f.end) c.before.read-from.ensures ∙ w.word_of.ensures
+returns c = let w = c.before.before in ap (λ (f : FieldsRead). ended (said w.word_of.result.0 f.numbers) f.end) c.before.read_from.ensures ∙ w.word_of.ensures
 
 pub read-line-spec : {M : Type 1} → statement M
 read-line-spec = tie.close (tie.spec word-of-requires read-from-requires returns)

@@ -1,10 +1,10 @@
 -- `listingline::word_of` meets its contract: a word that is spelled is the first field, and where none is, it is unknown. Assumes nothing.
 use mathlib.Core.Path.{refl}
-use Rattle.text.specs.Split.{without, sameBytes}
+use Rattle.text.specs.Split.{without, same_bytes}
 use Rattle.line.proofs.Spelled.{begins, differs}
 use Rattle.line.proofs.Behind.{known, unknown}
 use Rattle.listingline.specs.declared.Word.TheVariants.{Erase, Head, Safe, Unknown}
-use Rattle.listingline.specs.Line.{erase, head, safe, said, lineBy, line_of, ended}
+use Rattle.listingline.specs.Line.{erase, head, safe, said, line_by, line_of, ended}
 use Rattle.listingline.proofs.Words.{no_word}
 use borrow.Author.Rules.{rules}
 use Rattle.listingline.proofs.word_of.Statement.{statement}
@@ -17,7 +17,7 @@ spells-requires : tie.Need-spells-requires
 spells-requires c κs = tt
 
 returns : tie.Need-returns
-unfolding line_of lineBy sameBytes without
+unfolding line_of line_by same_bytes without
 returns c = known line_of ended _ erase (begins _ erase tt tt c.before.spells.ensures c.if1.true) (said Erase) (λ f fs. refl)
 
 slice-aggregate-spells-2 : tie.Need-slice-aggregate-spells-2
@@ -27,7 +27,7 @@ spells-requires-2 : tie.Need-spells-requires-2
 spells-requires-2 c κs = tt
 
 returns-2 : tie.Need-returns-2
-unfolding line_of lineBy sameBytes without
+unfolding line_of line_by same_bytes without
 returns-2 c = known line_of ended _ head (begins _ head tt tt c.before.spells2.ensures c.if2.true) (said Head) (λ f fs. refl)
 
 slice-aggregate-spells-3 : tie.Need-slice-aggregate-spells-3
@@ -37,7 +37,7 @@ spells-requires-3 : tie.Need-spells-requires-3
 spells-requires-3 c κs = tt
 
 returns-3 : tie.Need-returns-3
-unfolding line_of lineBy sameBytes without
+unfolding line_of line_by same_bytes without
 returns-3 c = known line_of ended _ safe (begins _ safe tt tt c.before.spells3.ensures c.if3.true) (said Safe) (λ f fs. refl)
 
 add-t19 : tie.Need-overflow-add-t19

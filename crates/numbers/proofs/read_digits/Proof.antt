@@ -7,7 +7,7 @@ use Rattle.numbers.specs.Number.{spelled}
 use Rattle.numbers.specs.Field.{field}
 use native.Mathlib.Omega.{arith}
 use Rattle.numbers.proofs.Spelling.{grows, small}
-use Rattle.numbers.proofs.Field.{digit-reads, digit-long}
+use Rattle.numbers.proofs.Field.{digit_reads, digit_long}
 use borrow.Author.Rules.{rules}
 use Rattle.numbers.proofs.read_digits.Statement.{statement}
 use Rattle.numbers.proofs.read_digits.Tie as tie
@@ -61,8 +61,8 @@ loop-again c =
       omega arith,
       omega arith,
       grows l.count l.value _ l.invariant.2 (omega arith),
-      sym (digit-reads l.value l.count s (omega arith) (omega arith) (omega arith)) ∙ l.invariant.3,
-      let x = l.invariant.4 in omega (arith, digit-long l.value l.count s (omega arith) (omega arith) (omega arith)),
+      sym (digit_reads l.value l.count s (omega arith) (omega arith) (omega arith)) ∙ l.invariant.3,
+      let x = l.invariant.4 in omega (arith, digit_long l.value l.count s (omega arith) (omega arith) (omega arith)),
     )
 
 returns-4 : tie.Need-returns-4 invariant-loop decreases-loop

@@ -1,8 +1,8 @@
 -- `numbers::read_fields` meets its contract. The loop's invariant is `Turn`; what is left of the text falls. Assumes nothing.
 use lib.ListN.{length}
-use Rattle.text.proofs.Split.{after-shorter}
-use Rattle.numbers.proofs.Field.{end-within}
-use Rattle.numbers.proofs.Fields.{Turn, first-turn, bad-turn, full-turn, last_turn, next-turn, inside}
+use Rattle.text.proofs.Split.{after_shorter}
+use Rattle.numbers.proofs.Field.{end_within}
+use Rattle.numbers.proofs.Fields.{Turn, first_turn, bad_turn, full_turn, last_turn, next_turn, inside}
 use native.Mathlib.Omega.{arith}
 use borrow.Author.Rules.{rules}
 use Rattle.numbers.proofs.read_fields.Statement.{statement}
@@ -15,7 +15,7 @@ abbrev decreases-loop : tie.decreases-loop
 decreases-loop s count₀ at₀ rest₀ count at rest = length rest
 
 loop-holds : tie.Need-loop-init invariant-loop decreases-loop
-loop-holds c = first-turn c.before.args.s.now
+loop-holds c = first_turn c.before.args.s.now
 
 read-field-requires : tie.Need-read-field-requires invariant-loop decreases-loop
 read-field-requires c κs = tt
@@ -30,13 +30,13 @@ wrong-fields-requires : tie.Need-wrong-fields-requires invariant-loop decreases-
 wrong-fields-requires c κs = tt
 
 returns : tie.Need-returns invariant-loop decreases-loop
-returns c = bad-turn c.before.before.before.before.loop.invariant c.before.before.before.read-field.ensures c.before.enum_told.given.1 c.wrong-fields.ensures
+returns c = bad_turn c.before.before.before.before.loop.invariant c.before.before.before.read-field.ensures c.before.enum_told.given.1 c.wrong-fields.ensures
 
 wrong-fields-requires-2 : tie.Need-wrong-fields-requires-2 invariant-loop decreases-loop
 wrong-fields-requires-2 c κs = tt
 
 returns-2 : tie.Need-returns-2 invariant-loop decreases-loop
-returns-2 c = full-turn c.before.before.before.before.before.before.loop.invariant c.before.before.before.before.before.read-field.ensures c.before.before.before.number.given.1 c.before.if1.true c.wrong-fields2.ensures
+returns-2 c = full_turn c.before.before.before.before.before.before.loop.invariant c.before.before.before.before.before.read-field.ensures c.before.before.before.number.given.1 c.before.if1.true c.wrong-fields2.ensures
 
 mul_at : tie.Need-overflow-mul-at invariant-loop decreases-loop
 mul_at c = search rules
@@ -55,7 +55,7 @@ add-t19 c =
     let told = c.before.before.before.before in
     let read = told.before.before in
     let i = read.before.loop.invariant in
-    omega (arith, i.fits, end-within read.before.loop.rest.now read.read-field.ensures told.number.given.1)
+    omega (arith, i.fits, end_within read.before.loop.rest.now read.read-field.ensures told.number.given.1)
 
 returns-3 : tie.Need-returns-3 invariant-loop decreases-loop
 returns-3 c = last_turn c.before.before.before.before.before.before.before.loop.invariant c.before.before.before.before.before.before.read-field.ensures c.before.before.before.before.number.given.1 c.before.before.if1.false c.if2.true
@@ -65,7 +65,7 @@ add-b c =
     let told = c.before.before.before.before in
     let read = told.before.before in
     let i = read.before.loop.invariant in
-    omega (arith, i.fits, end-within read.before.loop.rest.now read.read-field.ensures told.number.given.1)
+    omega (arith, i.fits, end_within read.before.loop.rest.now read.read-field.ensures told.number.given.1)
 
 sub-rest : tie.Need-overflow-sub-rest invariant-loop decreases-loop
 sub-rest c = let h = inside c.before.before.before.before.before.before.before.loop.invariant c.before.before.before.before.before.before.read-field.ensures c.before.before.before.before.number.given.1 c.before.before.if1.false c.if2.false in search rules
@@ -81,13 +81,13 @@ loop-less c =
     let told = c.before.before.before.before.before in
     let read = told.before.before in
     let l = read.before.loop in
-    after-shorter _ l.rest.now (inside l.invariant read.read-field.ensures told.number.given.1 c.before.before.before.if1.false c.before.if2.false)
+    after_shorter _ l.rest.now (inside l.invariant read.read-field.ensures told.number.given.1 c.before.before.before.if1.false c.before.if2.false)
 
 loop-again : tie.Need-loop-preserved invariant-loop decreases-loop
 loop-again c =
     let told = c.before.before.before.before.before in
     let read = told.before.before in
-    next-turn read.before.loop.invariant read.read-field.ensures told.number.given.1 c.before.before.before.if1.false c.before.if2.false
+    next_turn read.before.loop.invariant read.read-field.ensures told.number.given.1 c.before.before.before.if1.false c.before.if2.false
 
 pub read-fields-spec : {M : Type 1} → statement M
 read-fields-spec =

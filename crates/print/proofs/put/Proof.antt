@@ -1,5 +1,5 @@
 -- `print::put` meets its contract. Assumes nothing.
-use Rattle.text.proofs.Puts.{one-put, one-past}
+use Rattle.text.proofs.Puts.{one_put, one_past}
 use native.Mathlib.Omega.{arith}
 use borrow.Author.Rules.{rules}
 use Rattle.print.proofs.put.Statement.{statement}
@@ -9,7 +9,7 @@ add-result : tie.Need-overflow-add-result
 add-result c = search rules
 
 returns : tie.Need-returns
-returns c = one-past _ _ _ c.if1.true
+returns c = one_past _ _ _ c.if1.true
 
 slice-write-out : tie.Need-slice-write-out
 slice-write-out c = search rules
@@ -21,7 +21,7 @@ same_length : tie.Need-same-length
 same_length c = search rules
 
 returns-2 : tie.Need-returns-2
-returns-2 c = one-put _ _ _ (omega arith)
+returns-2 c = one_put _ _ _ (omega arith)
 
 pub put_spec : {M : Type 1} → statement M
 put_spec =

@@ -3,7 +3,7 @@ use Prim.Native.Nat.{◌-◌, ◌≤◌}
 use lib.ListN.{length, take}
 use lib.Seq.{take_all}
 use Rattle.text.specs.Put.{Put}
-use Rattle.text.proofs.Puts.{none-put, then-put, as-put, put-length}
+use Rattle.text.proofs.Puts.{none_put, then_put, as_put, put_length}
 use Rattle.print.proofs.Puts.{take_more}
 use borrow.Author.Rules.{rules}
 use native.Mathlib.Omega.{arith}
@@ -20,7 +20,7 @@ place-requires : tie.Need-place-requires invariant-loop decreases-loop
 place-requires c κs = search rules
 
 loop-holds : tie.Need-loop-init invariant-loop decreases-loop
-loop-holds c = (search rules, none-put _ _ c.place.ensures)
+loop-holds c = (search rules, none_put _ _ c.place.ensures)
 
 shared-slice-read-put : tie.Need-shared-slice-read-put invariant-loop decreases-loop
 shared-slice-read-put c = search rules
@@ -38,13 +38,13 @@ loop-again : tie.Need-loop-preserved invariant-loop decreases-loop
 loop-again c =
     let turn = c.before.before.before.before.before.before in
     let a = turn.before.before.before.before.args in
-    (search rules, as-put (take_more a.s.now turn.loop.i (omega arith)) (then-put turn.loop.invariant.1 c.before.before.put.ensures))
+    (search rules, as_put (take_more a.s.now turn.loop.i (omega arith)) (then_put turn.loop.invariant.1 c.before.before.put.ensures))
 
 same_length : tie.Need-same-length invariant-loop decreases-loop
-same_length c = put-length c.before.loop.invariant.1
+same_length c = put_length c.before.loop.invariant.1
 
 returns : tie.Need-returns invariant-loop decreases-loop
-returns c = as-put (take_all c.before.loop.i c.before.before.before.before.before.args.s.now (omega arith)) c.before.loop.invariant.1
+returns c = as_put (take_all c.before.loop.i c.before.before.before.before.before.args.s.now (omega arith)) c.before.loop.invariant.1
 
 pub put-all-spec : {M : Type 1} → statement M
 put-all-spec =

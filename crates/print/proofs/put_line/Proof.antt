@@ -1,5 +1,5 @@
 -- `print::put_line` meets its contract. Assumes nothing.
-use Rattle.print.proofs.Puts.{line-put}
+use Rattle.print.proofs.Puts.{line_put}
 use borrow.Author.Rules.{rules}
 use Rattle.print.proofs.put_line.Statement.{statement}
 use Rattle.print.proofs.put_line.Tie as tie
@@ -17,7 +17,7 @@ same_length : tie.Need-same-length
 same_length c = search rules
 
 returns : tie.Need-returns
-returns c = line-put _ c.before.before.before.before.before.before.before.before.before.before.put_all.ensures c.before.before.before.before.before.before.put-fields.ensures c.before.before.put.ensures
+returns c = line_put _ c.before.before.before.before.before.before.before.before.before.before.put_all.ensures c.before.before.before.before.before.before.put_fields.ensures c.before.before.put.ensures
 
 pub put-line-spec : {M : Type 1} → statement M
 put-line-spec =

@@ -29,7 +29,7 @@ returns c =
     let tab = name.before.before.before.before in
     let fields = tab.before.before.before.before in
     let word = fields.before.before.before.before in
-    named_put _ word.put_all.ensures fields.put-fields.ensures tab.put.ensures name.put-all2.ensures last.put2.ensures
+    named_put _ word.put_all.ensures fields.put_fields.ensures tab.put.ensures name.put-all2.ensures last.put2.ensures
 
 pub put-named-spec : {M : Type 1} → statement M
 put-named-spec =

@@ -3,15 +3,15 @@ use mathlib.Core.Logic.{⊎_elim}
 use mathlib.Core.Path.{◌≡◌, sym, ap, ◌∙◌}
 use lib.ListN.{length}
 use Prim.Native.Nat.{◌+◌, ◌-◌, ◌≤◌}
-use Rattle.printing.specs.Listing.{presentIn}
-use Rattle.printing.proofs.Bytes.{count_none, count-more, present-same}
+use Rattle.printing.specs.Listing.{present_in}
+use Rattle.printing.proofs.Bytes.{count_none, count_more, present_same}
 use borrow.Author.Rules.{rules}
 use native.Mathlib.Omega.{arith}
 use Rattle.printing.proofs.count.Statement.{statement}
 use Rattle.printing.proofs.count.Tie as tie
 
 abbrev invariant-loop : tie.invariant-loop
-invariant-loop cells n present₀ i₀ present i = (i ≤ n) × (present ≤ i) × (present ≡ length (presentIn cells i))
+invariant-loop cells n present₀ i₀ present i = (i ≤ n) × (present ≤ i) × (present ≡ length (present_in cells i))
 
 abbrev decreases-loop : tie.decreases-loop
 decreases-loop cells n present₀ i₀ present i = n - i
@@ -39,8 +39,8 @@ loop-again c =
     let l = c.before.before.before.loop in
     let cells = c.before.before.before.before.args.cells.now in
     ⊎_elim
-    (λ w. (search rules, omega arith, w.1 ∙ ap (λ n. n + 1) l.invariant.2 ∙ sym (count-more cells l.i w.0.taken)))
-    (λ w. (search rules, omega arith, w.1 ∙ l.invariant.2 ∙ ap length (sym (present-same cells l.i w.0.left))))
+    (λ w. (search rules, omega arith, w.1 ∙ ap (λ n. n + 1) l.invariant.2 ∙ sym (count_more cells l.i w.0.taken)))
+    (λ w. (search rules, omega arith, w.1 ∙ l.invariant.2 ∙ ap length (sym (present_same cells l.i w.0.left))))
     c.if1.branch
 
 returns : tie.Need-returns invariant-loop decreases-loop

@@ -2,16 +2,16 @@
 use mathlib.Core.Path.{◌≡◌}
 use Prim.Native.Nat.{◌-◌, ◌≤◌}
 use Rattle.text.specs.Put.{Put}
-use Rattle.text.proofs.Puts.{none-put, as-put, put-length}
-use Rattle.printing.specs.Listing.{cellsBytes}
-use Rattle.printing.proofs.Bytes.{cells-none, cells-put}
+use Rattle.text.proofs.Puts.{none_put, as_put, put_length}
+use Rattle.printing.specs.Listing.{cells_bytes}
+use Rattle.printing.proofs.Bytes.{cells_none, cells_put}
 use borrow.Author.Rules.{rules}
 use native.Mathlib.Omega.{arith}
 use Rattle.printing.proofs.put_cells.Statement.{statement}
 use Rattle.printing.proofs.put_cells.Tie as tie
 
 abbrev invariant-loop : tie.invariant-loop
-invariant-loop out₀ at kind size cells n next₀ i₀ out next i = (i ≤ n) × Put out₀ out at next (cellsBytes kind size.symbols size.states cells i)
+invariant-loop out₀ at kind size cells n next₀ i₀ out next i = (i ≤ n) × Put out₀ out at next (cells_bytes kind size.symbols size.states cells i)
 
 abbrev decreases-loop : tie.decreases-loop
 decreases-loop out₀ at kind size cells n next₀ i₀ out next i = n - i
@@ -20,7 +20,7 @@ place-requires : tie.Need-place-requires invariant-loop decreases-loop
 place-requires c κs = search rules
 
 loop-holds : tie.Need-loop-init invariant-loop decreases-loop
-loop-holds c = (search rules, as-put (cells-none _ _ _ _) (none-put _ _ c.place.ensures))
+loop-holds c = (search rules, as_put (cells_none _ _ _ _) (none_put _ _ c.place.ensures))
 
 mul-put-fact : tie.Need-overflow-mul-put-fact invariant-loop decreases-loop
 mul-put-fact c = search rules
@@ -29,7 +29,7 @@ shared-slice-read-put-fact : tie.Need-shared-slice-read-put-fact invariant-loop 
 shared-slice-read-put-fact c = search rules
 
 put-fact-requires : tie.Need-put-fact-requires invariant-loop decreases-loop
-put-fact-requires c κs = (search rules, let x = c.before.before.before.loop.invariant.1 in omega (arith, x.place, put-length x))
+put-fact-requires c κs = (search rules, let x = c.before.before.before.loop.invariant.1 in omega (arith, x.place, put_length x))
 
 add-i : tie.Need-overflow-add-i invariant-loop decreases-loop
 add-i c = search rules
@@ -38,10 +38,10 @@ loop-less : tie.Need-loop-smaller invariant-loop decreases-loop
 loop-less c = search rules
 
 loop-again : tie.Need-loop-preserved invariant-loop decreases-loop
-loop-again c = let a = c.before.before.before.before.before.before.before.before.before.before.args in (search rules, cells-put a.kind a.size.symbols a.size.states a.cells.now c.before.before.before.before.before.before.loop.i c.before.before.before.before.before.before.loop.invariant.1 c.before.before.put-fact.ensures)
+loop-again c = let a = c.before.before.before.before.before.before.before.before.before.before.args in (search rules, cells_put a.kind a.size.symbols a.size.states a.cells.now c.before.before.before.before.before.before.loop.i c.before.before.before.before.before.before.loop.invariant.1 c.before.before.put-fact.ensures)
 
 same_length : tie.Need-same-length invariant-loop decreases-loop
-same_length c = put-length c.before.loop.invariant.1
+same_length c = put_length c.before.loop.invariant.1
 
 returns : tie.Need-returns invariant-loop decreases-loop
 returns c = let e : c.before.loop.i ≡ c.before.before.before.before.before.args.n = omega arith in rw e at c.before.loop.invariant.1

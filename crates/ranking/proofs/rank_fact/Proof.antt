@@ -3,13 +3,13 @@ use mathlib.Core.Path.{sym, ◌∙◌}
 use native.Mathlib.Omega.{arith}
 use borrow.Author.Rules.{rules}
 use Rattle.table.specs.Places.{fact_of}
-use Rattle.table.proofs.Places.{fact-read, fact-put, has-place, has-none}
-use Rattle.ranking.proofs.Faults.{fault-early, fault-twice, fault-outside, fault-large, fault-none, not-ranked, is-ranked}
+use Rattle.table.proofs.Places.{fact_read, fact_put, has_place, has_none}
+use Rattle.ranking.proofs.Faults.{fault_early, fault_twice, fault_outside, fault_large, fault_none, not_ranked, is_ranked}
 use Rattle.ranking.proofs.rank_fact.Statement.{statement}
 use Rattle.ranking.proofs.rank_fact.Tie as tie
 
 returns : tie.Need-returns
-returns c = not-ranked (fault-early _ _ _ _ c.if1.true) (λ e. omega arith)
+returns c = not_ranked (fault_early _ _ _ _ c.if1.true) (λ e. omega arith)
 
 place-of-requires : tie.Need-place-of-requires
 place-of-requires c κs = search rules
@@ -25,8 +25,8 @@ returns-2 c =
     let read = c.before in
     let place = read.before.before in
     let f = fact_of place.before.before.before.args.f in
-    let held = fact-read _ _ _ f place.place-of.ensures read.read.ensures in
-    not-ranked (fault-twice _ _ _ _ place.before.if1.false (λ e. c.if2.true (held ∙ e))) (λ e. omega arith)
+    let held = fact_read _ _ _ f place.place_of_lem.ensures read.read.ensures in
+    not_ranked (fault_twice _ _ _ _ place.before.if1.false (λ e. c.if2.true (held ∙ e))) (λ e. omega arith)
 
 enum_told : tie.Need-enum-told
 enum_told c = search rules
@@ -42,9 +42,9 @@ returns-3 c =
     let read = c.before.before.before in
     let place = read.before.before in
     let f = fact_of place.before.before.before.args.f in
-    let held = fact-read _ _ _ f place.place-of.ensures read.read.ensures in
-    let out = has-none _ _ f place.place-of.ensures c.enum-told2.given.1 in
-    not-ranked (fault-outside _ _ _ _ place.before.if1.false (sym held ∙ c.before.before.if2.false) out) (λ e. omega arith)
+    let held = fact_read _ _ _ f place.place_of_lem.ensures read.read.ensures in
+    let out = has_none _ _ f place.place_of_lem.ensures c.enum-told2.given.1 in
+    not_ranked (fault_outside _ _ _ _ place.before.if1.false (sym held ∙ c.before.before.if2.false) out) (λ e. omega arith)
 
 same-length-3 : tie.Need-same-length-3
 same-length-3 c = search rules
@@ -55,9 +55,9 @@ returns-4 c =
     let read = told.before.before.before in
     let place = read.before.before in
     let f = fact_of place.before.before.before.args.f in
-    let held = fact-read _ _ _ f place.place-of.ensures read.read.ensures in
-    let inside = has-place _ _ f place.place-of.ensures told.enum_told.given.1 in
-    not-ranked (fault-large _ _ _ _ place.before.if1.false (sym held ∙ told.before.before.if2.false) inside c.if3.true) (λ e. omega arith)
+    let held = fact_read _ _ _ f place.place_of_lem.ensures read.read.ensures in
+    let inside = has_place _ _ f place.place_of_lem.ensures told.enum_told.given.1 in
+    not_ranked (fault_large _ _ _ _ place.before.if1.false (sym held ∙ told.before.before.if2.false) inside c.if3.true) (λ e. omega arith)
 
 cast-put : tie.Need-overflow-cast-put
 cast-put c = search rules
@@ -76,10 +76,10 @@ returns-5 c =
     let read = told.before.before.before in
     let place = read.before.before in
     let f = fact_of place.before.before.before.args.f in
-    let held = fact-read _ _ _ f place.place-of.ensures read.read.ensures in
-    let inside = has-place _ _ f place.place-of.ensures told.enum_told.given.1 in
-    is-ranked (fault-none _ _ _ _ place.before.if1.false (sym held ∙ told.before.before.if2.false) inside small.if3.false)
-    (fact-put _ _ _ f place.place-of.ensures _ put.put.ensures)
+    let held = fact_read _ _ _ f place.place_of_lem.ensures read.read.ensures in
+    let inside = has_place _ _ f place.place_of_lem.ensures told.enum_told.given.1 in
+    is_ranked (fault_none _ _ _ _ place.before.if1.false (sym held ∙ told.before.before.if2.false) inside small.if3.false)
+    (fact_put _ _ _ f place.place_of_lem.ensures _ put.put.ensures)
 
 pub rank-fact-spec : {M : Type 1} → statement M
 rank-fact-spec =

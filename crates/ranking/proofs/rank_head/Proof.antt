@@ -1,12 +1,12 @@
 -- `ranking::rank_head` meets its contract. Assumes nothing.
 use native.Mathlib.Omega.{arith}
 use borrow.Author.Rules.{rules}
-use Rattle.ranking.proofs.Faults.{miscounted, well-counted, not-ranked}
+use Rattle.ranking.proofs.Faults.{miscounted, well_counted, not_ranked}
 use Rattle.ranking.proofs.rank_head.Statement.{statement}
 use Rattle.ranking.proofs.rank_head.Tie as tie
 
 returns : tie.Need-returns
-returns c = not-ranked (miscounted _ _ _ c.if1.true) (λ e. omega arith)
+returns c = not_ranked (miscounted _ _ _ c.if1.true) (λ e. omega arith)
 
 array-read-t10 : tie.Need-array-read-t10
 array-read-t10 c = search rules
@@ -32,7 +32,7 @@ same_length c = search rules
 returns-2 : tie.Need-returns-2
 returns-2 c =
     let put = c.before.before in
-    well-counted _ _ _ put.before.before.before.if1.false put.rank-fact.ensures
+    well_counted _ _ _ put.before.before.before.if1.false put.rank-fact.ensures
 
 pub rank-head-spec : {M : Type 1} → statement M
 rank-head-spec =

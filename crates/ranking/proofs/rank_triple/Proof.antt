@@ -1,12 +1,12 @@
 -- `ranking::rank_triple` meets its contract. Assumes nothing.
 use native.Mathlib.Omega.{arith}
 use borrow.Author.Rules.{rules}
-use Rattle.ranking.proofs.Faults.{miscounted, well-counted, not-ranked}
+use Rattle.ranking.proofs.Faults.{miscounted, well_counted, not_ranked}
 use Rattle.ranking.proofs.rank_triple.Statement.{statement}
 use Rattle.ranking.proofs.rank_triple.Tie as tie
 
 returns : tie.Need-returns
-returns c = not-ranked (miscounted _ _ _ c.if1.true) (λ e. omega arith)
+returns c = not_ranked (miscounted _ _ _ c.if1.true) (λ e. omega arith)
 
 array-read-t10 : tie.Need-array-read-t10
 array-read-t10 c = search rules
@@ -38,7 +38,7 @@ same_length c = search rules
 returns-2 : tie.Need-returns-2
 returns-2 c =
     let put = c.before.before in
-    well-counted _ _ _ put.before.before.before.if1.false put.rank-fact.ensures
+    well_counted _ _ _ put.before.before.before.if1.false put.rank-fact.ensures
 
 pub rank-triple-spec : {M : Type 1} → statement M
 rank-triple-spec =

@@ -1,13 +1,13 @@
 -- `reader::read_lines` meets its contract: what was read so far is a draft, for which the outline and the bytes stand; the length of what is left falls. Assumes nothing.
 use mathlib.Core.Path.{refl, ap, sym, ◌∙◌}
 use lib.ListN.{length, replicate}
-use Rattle.text.proofs.Split.{after-shorter}
+use Rattle.text.proofs.Split.{after_shorter}
 use Rattle.draft.specs.Draft.{Draft}
 use Rattle.draft.specs.Written.{Stands}
-use Rattle.draft.proofs.Laid.{same-refusal, stands-next}
+use Rattle.draft.proofs.Laid.{same_refusal, stands_next}
 use Rattle.reader.specs.Reading.{meaning}
-use Rattle.reader.proofs.Turns.{Turn, first-turn, refused-turn, next-turn, open-line, done}
-use Rattle.reader.proofs.Leaves.{first-stands, refused-read, line-numbered}
+use Rattle.reader.proofs.Turns.{Turn, first_turn, refused_turn, next_turn, open_line, done}
+use Rattle.reader.proofs.Leaves.{first_stands, refused_read, line_numbered}
 use native.Mathlib.Omega.{arith}
 use borrow.Author.Rules.{rules}
 use Rattle.reader.proofs.read_lines.Statement.{statement}
@@ -25,7 +25,7 @@ no-outline-requires c κs = search rules
 loop-holds : tie.Need-loop-init invariant-loop decreases-loop
 loop-holds c =
     let start = c.before.before in
-    (_, first-stands c.no-outline.ensures start.requires.1, first-turn start.args.text.now)
+    (_, first_stands c.no-outline.ensures start.requires.1, first_turn start.args.text.now)
 
 read-line-requires : tie.Need-read-line-requires invariant-loop decreases-loop
 read-line-requires c κs = search rules
@@ -39,7 +39,7 @@ returns c =
     let line = short.before in
     let turn = line.before.before in
     let (d, _, t) = turn.loop.invariant in
-    refused-read (open-line t line.read-line.ensures line.before.loop-test.true short.if1.true) (λ m. ap (λ r. meaning r m) c.refuse.ensures.0) c.refuse.ensures.1
+    refused_read (open_line t line.read-line.ensures line.before.loop-test.true short.if1.true) (λ m. ap (λ r. meaning r m) c.refuse.ensures.0) c.refuse.ensures.1
 
 take-line-requires : tie.Need-take-line-requires invariant-loop decreases-loop
 take-line-requires c κs = search rules
@@ -47,7 +47,7 @@ take-line-requires c κs = search rules
 numbered-requires : tie.Need-numbered-requires invariant-loop decreases-loop
 numbered-requires c κs =
     let refused = c.before in
-    line-numbered refused.before.take-line.ensures refused.if2.true
+    line_numbered refused.before.take_line.ensures refused.if2.true
 
 refuse-requires-2 : tie.Need-refuse-requires-2 invariant-loop decreases-loop
 refuse-requires-2 c κs = search rules
@@ -61,7 +61,7 @@ returns-2 c =
     let line = whole.before in
     let turn = line.before.before in
     let (d, s, t) = turn.loop.invariant in
-    refused-read (refused-turn t line.read-line.ensures whole.if1.false (same-refusal s taken.take-line.ensures) refused.if2.true)
+    refused_read (refused_turn t line.read-line.ensures whole.if1.false (same_refusal s taken.take_line.ensures) refused.if2.true)
     (λ m. ap (λ r. meaning r m) c.refuse2.ensures.0 ∙ number.numbered.ensures m) c.refuse2.ensures.1
 
 add-n : tie.Need-overflow-add-n invariant-loop decreases-loop
@@ -88,7 +88,7 @@ loop-less : tie.Need-loop-smaller invariant-loop decreases-loop
 loop-less c =
     let whole = c.before.before.before.before.before.before in
     let turn = whole.before.before.before in
-    after-shorter _ turn.loop.left.now whole.if1.false
+    after_shorter _ turn.loop.left.now whole.if1.false
 
 loop-again : tie.Need-loop-preserved invariant-loop decreases-loop
 loop-again c =
@@ -99,8 +99,8 @@ loop-again c =
     let turn = line.before.before in
     let (d, s, t) = turn.loop.invariant in (
       _,
-      stands-next s taken.take-line.ensures passed.if2.false,
-      next-turn t line.read-line.ensures whole.if1.false (same-refusal s taken.take-line.ensures) passed.if2.false,
+      stands_next s taken.take_line.ensures passed.if2.false,
+      next_turn t line.read-line.ensures whole.if1.false (same_refusal s taken.take_line.ensures) passed.if2.false,
     )
 
 finish-requires : tie.Need-finish-requires invariant-loop decreases-loop

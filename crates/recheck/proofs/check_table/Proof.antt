@@ -1,7 +1,7 @@
 -- `recheck::check_table` meets its contract: at each of its ends the answer follows from the tests before. Assumes nothing.
 use borrow.Author.Rules.{rules}
-use Rattle.lent.specs.Lending.{modelIn}
-use Rattle.recheck.proofs.Reasons.{refuses-invalid, refuses-short, sized, has-no-start, has-violating, is_open, is-accepted, start-read, clean-read, found-read}
+use Rattle.lent.specs.Lending.{model_in}
+use Rattle.recheck.proofs.Reasons.{refuses_invalid, refuses_short, sized, has_no_start, has_violating, is_open, is_accepted, start_read, clean_read, found_read}
 use Rattle.recheck.proofs.check_table.Statement.{statement}
 use Rattle.recheck.proofs.check_table.Tie as tie
 
@@ -12,13 +12,13 @@ returns : tie.Need-returns
 returns c =
     let measured = c.before.before in
     let a = measured.before.before.before.args in
-    refuses-invalid (modelIn a.m.now) a.heads.now a.triples.now measured.measure.ensures c.if1.true
+    refuses_invalid (model_in a.m.now) a.heads.now a.triples.now measured.measure.ensures c.if1.true
 
 returns-2 : tie.Need-returns-2
 returns-2 c =
     let measured = c.before.before.before.before in
     let a = measured.before.before.before.args in
-    refuses-short (modelIn a.m.now) a.heads.now a.triples.now measured.measure.ensures c.if2.true
+    refuses_short (model_in a.m.now) a.heads.now a.triples.now measured.measure.ensures c.if2.true
 
 shape-requires : tie.Need-shape-requires
 shape-requires c κs = search rules
@@ -40,9 +40,9 @@ returns-3 c =
     let one = two.before.before in
     let measured = one.before.before in
     let a = measured.before.before.before.args in
-    let z = sized (modelIn a.m.now) a.heads.now a.triples.now measured.measure.ensures one.if1.false two.if2.false in
-    has-no-start (modelIn a.m.now) a.heads.now a.triples.now measured.measure.ensures one.if1.false two.if2.false
-    (start-read a.m.now a.heads.now a.triples.now z.size_is read.shape.ensures start.has.ensures) c.if3.true
+    let z = sized (model_in a.m.now) a.heads.now a.triples.now measured.measure.ensures one.if1.false two.if2.false in
+    has_no_start (model_in a.m.now) a.heads.now a.triples.now measured.measure.ensures one.if1.false two.if2.false
+    (start_read a.m.now a.heads.now a.triples.now z.size_is read.shape.ensures start.has.ensures) c.if3.true
 
 is-clean-requires : tie.Need-is-clean-requires
 is-clean-requires c κs = search rules
@@ -56,10 +56,10 @@ returns-4 c =
     let one = two.before.before in
     let measured = one.before.before in
     let a = measured.before.before.before.args in
-    let z = sized (modelIn a.m.now) a.heads.now a.triples.now measured.measure.ensures one.if1.false two.if2.false in
-    has-violating (modelIn a.m.now) a.heads.now a.triples.now measured.measure.ensures one.if1.false two.if2.false
-    (start-read a.m.now a.heads.now a.triples.now z.size_is read.shape.ensures start.has.ensures) cleaned.before.if3.false
-    (clean-read a.m.now a.heads.now a.triples.now z.size_is read.shape.ensures cleaned.is-clean.ensures) c.if4.true
+    let z = sized (model_in a.m.now) a.heads.now a.triples.now measured.measure.ensures one.if1.false two.if2.false in
+    has_violating (model_in a.m.now) a.heads.now a.triples.now measured.measure.ensures one.if1.false two.if2.false
+    (start_read a.m.now a.heads.now a.triples.now z.size_is read.shape.ensures start.has.ensures) cleaned.before.if3.false
+    (clean_read a.m.now a.heads.now a.triples.now z.size_is read.shape.ensures cleaned.is_clean.ensures) c.if4.true
 
 open-step-requires : tie.Need-open-step-requires
 open-step-requires c κs =
@@ -69,7 +69,7 @@ open-step-requires c κs =
     let one = two.before.before in
     let measured = one.before.before in
     let a = measured.before.before.before.args in
-    sized (modelIn a.m.now) a.heads.now a.triples.now measured.measure.ensures one.if1.false two.if2.false
+    sized (model_in a.m.now) a.heads.now a.triples.now measured.measure.ensures one.if1.false two.if2.false
 
 enum-known-found : tie.Need-enum-known-found
 enum-known-found c = search rules
@@ -87,11 +87,11 @@ returns-5 c =
     let one = two.before.before in
     let measured = one.before.before in
     let a = measured.before.before.before.args in
-    let z = sized (modelIn a.m.now) a.heads.now a.triples.now measured.measure.ensures one.if1.false two.if2.false in
-    is_open (modelIn a.m.now) a.heads.now a.triples.now measured.measure.ensures one.if1.false two.if2.false
-    (start-read a.m.now a.heads.now a.triples.now z.size_is read.shape.ensures start.has.ensures) cleaned.before.if3.false
-    (clean-read a.m.now a.heads.now a.triples.now z.size_is read.shape.ensures cleaned.is-clean.ensures) sought.before.if4.false
-    (found-read a.m.now a.heads.now a.triples.now z.size_is sought.open_step.ensures) c.before.found.given.1
+    let z = sized (model_in a.m.now) a.heads.now a.triples.now measured.measure.ensures one.if1.false two.if2.false in
+    is_open (model_in a.m.now) a.heads.now a.triples.now measured.measure.ensures one.if1.false two.if2.false
+    (start_read a.m.now a.heads.now a.triples.now z.size_is read.shape.ensures start.has.ensures) cleaned.before.if3.false
+    (clean_read a.m.now a.heads.now a.triples.now z.size_is read.shape.ensures cleaned.is_clean.ensures) sought.before.if4.false
+    (found_read a.m.now a.heads.now a.triples.now z.size_is sought.open_step.ensures) c.before.found.given.1
 
 returns-6 : tie.Need-returns-6
 returns-6 c =
@@ -103,11 +103,11 @@ returns-6 c =
     let one = two.before.before in
     let measured = one.before.before in
     let a = measured.before.before.before.args in
-    let z = sized (modelIn a.m.now) a.heads.now a.triples.now measured.measure.ensures one.if1.false two.if2.false in
-    is-accepted (modelIn a.m.now) a.heads.now a.triples.now measured.measure.ensures one.if1.false two.if2.false
-    (start-read a.m.now a.heads.now a.triples.now z.size_is read.shape.ensures start.has.ensures) cleaned.before.if3.false
-    (clean-read a.m.now a.heads.now a.triples.now z.size_is read.shape.ensures cleaned.is-clean.ensures) sought.before.if4.false
-    (found-read a.m.now a.heads.now a.triples.now z.size_is sought.open_step.ensures) c.enum_told.given.1
+    let z = sized (model_in a.m.now) a.heads.now a.triples.now measured.measure.ensures one.if1.false two.if2.false in
+    is_accepted (model_in a.m.now) a.heads.now a.triples.now measured.measure.ensures one.if1.false two.if2.false
+    (start_read a.m.now a.heads.now a.triples.now z.size_is read.shape.ensures start.has.ensures) cleaned.before.if3.false
+    (clean_read a.m.now a.heads.now a.triples.now z.size_is read.shape.ensures cleaned.is_clean.ensures) sought.before.if4.false
+    (found_read a.m.now a.heads.now a.triples.now z.size_is sought.open_step.ensures) c.enum_told.given.1
 
 pub check-table-spec : {M : Type 1} → statement M
 check-table-spec =

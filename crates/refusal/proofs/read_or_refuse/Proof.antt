@@ -1,6 +1,6 @@
 -- `refusal::read_or_refuse` meets its contract. Assumes nothing.
-use Rattle.text.proofs.Puts.{put-length}
-use Rattle.refusal.proofs.Reading.{line-fits, seeing}
+use Rattle.text.proofs.Puts.{put_length}
+use Rattle.refusal.proofs.Reading.{line_fits, seeing}
 use borrow.Author.Rules.{rules}
 use Rattle.refusal.proofs.read_or_refuse.Statement.{statement}
 use Rattle.refusal.proofs.read_or_refuse.Tie as tie
@@ -11,19 +11,19 @@ read-model-requires c κs = search rules
 put-reading-requires : tie.Need-put-reading-requires
 put-reading-requires c κs =
     let read = c.before in
-    line-fits read.before.before.before.before.args.text.now read.read-model.ensures
+    line_fits read.before.before.before.before.args.text.now read.read-model.ensures
 
 is-accepted-requires : tie.Need-is-accepted-requires
 is-accepted-requires c κs = search rules
 
 same_length : tie.Need-same-length
-same_length c = put-length c.before.before.before.put-reading.ensures
+same_length c = put_length c.before.before.before.put-reading.ensures
 
 returns : tie.Need-returns
 returns c =
     let put = c.before.before.before in
     let read = put.before.before in
-    seeing read.before.before.before.before.args.text.now read.read-model.ensures c.is-accepted.ensures put.put-reading.ensures
+    seeing read.before.before.before.before.args.text.now read.read-model.ensures c.is_accepted.ensures put.put-reading.ensures
 
 pub read-or-refuse-spec : {M : Type 1} → statement M
 read-or-refuse-spec =

@@ -1,7 +1,7 @@
 -- `replay::goes` meets its contract: the tests in their order. Assumes nothing.
 use Rattle.product.specs.Product.{loaded}
-use Rattle.lent.specs.Lending.{productIn}
-use Rattle.replay.proofs.Going.{other-top, its-top}
+use Rattle.lent.specs.Lending.{product_in}
+use Rattle.replay.proofs.Going.{other_top, its_top}
 use borrow.Author.Rules.{rules}
 use Rattle.replay.proofs.goes.Statement.{statement}
 use Rattle.replay.proofs.goes.Tie as tie
@@ -21,7 +21,7 @@ replaces-requires c κs = search rules
 returns : tie.Need-returns
 returns c =
     let a = c.before.before.before.args in
-    other-top (productIn a.m.now) (loaded a.n) a.q a.g c.before.before.rule-at.ensures c.before.replaces.ensures c.if1.true
+    other_top (product_in a.m.now) (loaded a.n) a.q a.g c.before.before.rule_at.ensures c.before.replaces.ensures c.if1.true
 
 next-state-requires : tie.Need-next-state-requires
 next-state-requires c κs = search rules
@@ -29,7 +29,7 @@ next-state-requires c κs = search rules
 returns-2 : tie.Need-returns-2
 returns-2 c =
     let a = c.before.before.before.before.args in
-    its-top (productIn a.m.now) (loaded a.n) a.q a.g c.before.before.before.rule-at.ensures c.before.before.replaces.ensures c.before.if1.false c.next-state.ensures.0
+    its_top (product_in a.m.now) (loaded a.n) a.q a.g c.before.before.before.rule_at.ensures c.before.before.replaces.ensures c.before.if1.false c.next_state.ensures.0
 
 pub goes-spec : {M : Type 1} → statement M
 goes-spec =

@@ -6,13 +6,13 @@ use Prim.Native.Nat.{◌-◌}
 use native.Mathlib.Omega.{arith}
 use lib.ListN.{length, length-set}
 use borrow.Author.Rules.{rules}
-use Rattle.lent.specs.Lending.{modelIn}
-use Rattle.replay.proofs.Running.{Doing, ready, begins-lent, ran-lent, blocked, turns, finished}
+use Rattle.lent.specs.Lending.{model_in}
+use Rattle.replay.proofs.Running.{Doing, ready, begins_lent, ran_lent, blocked, turns, finished}
 use Rattle.replay.proofs.run.Statement.{statement}
 use Rattle.replay.proofs.run.Tie as tie
 
 abbrev invariant-loop : tie.invariant-loop
-invariant-loop m steps stack₀ start at₀ accepting₀ k₀ stack at accepting k = Doing (modelIn m) steps stack₀ k at accepting stack
+invariant-loop m steps stack₀ start at₀ accepting₀ k₀ stack at accepting k = Doing (model_in m) steps stack₀ k at accepting stack
 
 abbrev decreases-loop : tie.decreases-loop
 decreases-loop m steps stack₀ start at₀ accepting₀ k₀ stack at accepting k = length steps - k
@@ -33,7 +33,7 @@ loop-holds : tie.Need-loop-init invariant-loop decreases-loop
 loop-holds c =
     let read = c.before.before in
     let a = read.before.before.before.args in
-    begins-lent a.m.now a.steps.now a.stack.now read.shape.ensures c.is-final.ensures (search rules)
+    begins_lent a.m.now a.steps.now a.stack.now read.shape.ensures c.is_final.ensures (search rules)
 
 mul-step : tie.Need-overflow-mul-step invariant-loop decreases-loop
 mul-step c = search rules
@@ -52,7 +52,7 @@ step-requires c κs =
     let a = s.args in
     let l = turn.loop in
     let long = length-set a.stack.now 0 read.shape.result.startsymbol in
-    ready (modelIn a.m.now) s.requires.is-valid l.stack l.at.depth (omega (arith, l.invariant.deep, l.invariant.long, long, s.requires.room))
+    ready (model_in a.m.now) s.requires.is_valid l.stack l.at.depth (omega (arith, l.invariant.deep, l.invariant.long, long, s.requires.room))
 
 add-k : tie.Need-overflow-add-k invariant-loop decreases-loop
 add-k c = search rules
@@ -76,8 +76,8 @@ returns c =
     let read = turn.before.before.before in
     let s = read.before.before.before in
     let a = s.args in
-    ran-lent a.m.now a.steps.now a.stack.now read.shape.ensures
-    (blocked (modelIn a.m.now) a.steps.now turn.loop.invariant (search rules) did.step.ensures c.before.outcome.given.1)
+    ran_lent a.m.now a.steps.now a.stack.now read.shape.ensures
+    (blocked (model_in a.m.now) a.steps.now turn.loop.invariant (search rules) did.step.ensures c.before.outcome.given.1)
 
 enum-known-outcome-2 : tie.Need-enum-known-outcome-2 invariant-loop decreases-loop
 enum-known-outcome-2 c = search rules
@@ -92,7 +92,7 @@ loop-again c =
     let read = turn.before.before.before in
     let s = read.before.before.before in
     let a = s.args in
-    turns (modelIn a.m.now) a.steps.now turn.loop.invariant (search rules) did.step.ensures did.step.auto.1.0 false c.before.outcome2.given.1
+    turns (model_in a.m.now) a.steps.now turn.loop.invariant (search rules) did.step.ensures did.step.auto.1.0 false c.before.outcome2.given.1
 
 enum-known-outcome-3 : tie.Need-enum-known-outcome-3 invariant-loop decreases-loop
 enum-known-outcome-3 c = search rules
@@ -107,7 +107,7 @@ loop-again-2 c =
     let read = turn.before.before.before in
     let s = read.before.before.before in
     let a = s.args in
-    turns (modelIn a.m.now) a.steps.now turn.loop.invariant (search rules) did.step.ensures did.step.auto.1.0 true c.before.outcome3.given.1
+    turns (model_in a.m.now) a.steps.now turn.loop.invariant (search rules) did.step.ensures did.step.auto.1.0 true c.before.outcome3.given.1
 
 same-length-2 : tie.Need-same-length-2 invariant-loop decreases-loop
 same-length-2 c =
@@ -123,8 +123,8 @@ returns-2 c =
     let read = turn.before.before.before in
     let s = read.before.before.before in
     let a = s.args in
-    ran-lent a.m.now a.steps.now a.stack.now read.shape.ensures
-    (finished (modelIn a.m.now) a.steps.now turn.loop.invariant (search rules) true c.if1.true)
+    ran_lent a.m.now a.steps.now a.stack.now read.shape.ensures
+    (finished (model_in a.m.now) a.steps.now turn.loop.invariant (search rules) true c.if1.true)
 
 add-t22 : tie.Need-overflow-add-t22 invariant-loop decreases-loop
 add-t22 c = search rules
@@ -143,8 +143,8 @@ returns-3 c =
     let read = turn.before.before.before in
     let s = read.before.before.before in
     let a = s.args in
-    ran-lent a.m.now a.steps.now a.stack.now read.shape.ensures
-    (finished (modelIn a.m.now) a.steps.now turn.loop.invariant (search rules) false c.if1.false)
+    ran_lent a.m.now a.steps.now a.stack.now read.shape.ensures
+    (finished (model_in a.m.now) a.steps.now turn.loop.invariant (search rules) false c.if1.false)
 
 pub run_spec : {M : Type 1} → statement M
 run_spec =

@@ -2,7 +2,7 @@
 use mathlib.Core.Bool.{true, false}
 use Prim.Native.Nat.{◌-◌}
 use Rattle.product.specs.Product.{loaded}
-use Rattle.replay.proofs.Stepping.{empty, top-room, stepped, stuck}
+use Rattle.replay.proofs.Stepping.{empty, top_room, stepped, stuck}
 use native.Mathlib.Omega.{arith}
 use borrow.Author.Rules.{rules}
 use Rattle.replay.proofs.step.Statement.{statement}
@@ -45,7 +45,7 @@ replace-requires : tie.Need-replace-requires
 replace-requires c κs =
     let s = c.before.before.before.before.before.before.before.before.before in
     let a = s.args in
-    top-room s.requires (loaded a.n) a.number a.at.state (search rules) c.before.before.before.before.before.goes.ensures c.before.before.before.next.given.1 c.before.rule-at.ensures
+    top_room s.requires (loaded a.n) a.number a.at.state (search rules) c.before.before.before.before.before.goes.ensures c.before.before.before.next.given.1 c.before.rule_at.ensures
 
 is-final-requires : tie.Need-is-final-requires
 is-final-requires c κs = search rules
@@ -57,7 +57,7 @@ returns-2 : tie.Need-returns-2
 returns-2 c =
     let s = c.before.before.before.before.before.before.before.before.before.before.before.before.before.before in
     let a = s.args in
-    stepped s.requires (loaded a.n) a.number a.at.state (search rules) c.before.before.before.before.before.before.before.before.before.before.goes.ensures c.before.before.before.before.before.before.before.before.next.given.1 c.before.before.before.before.before.before.rule-at.ensures c.before.before.before.before.replace.ensures c.before.is-final.ensures true c.if2.true
+    stepped s.requires (loaded a.n) a.number a.at.state (search rules) c.before.before.before.before.before.before.before.before.before.before.goes.ensures c.before.before.before.before.before.before.before.before.next.given.1 c.before.before.before.before.before.before.rule_at.ensures c.before.before.before.before.replace.ensures c.before.is_final.ensures true c.if2.true
 
 returns-3 : tie.Need-returns-3
 returns-3 c =
@@ -72,7 +72,7 @@ returns-4 : tie.Need-returns-4
 returns-4 c =
     let s = c.before.before.before.before.before.before.before.before.before.before.before.before.before.before in
     let a = s.args in
-    stepped s.requires (loaded a.n) a.number a.at.state (search rules) c.before.before.before.before.before.before.before.before.before.before.goes.ensures c.before.before.before.before.before.before.before.before.next.given.1 c.before.before.before.before.before.before.rule-at.ensures c.before.before.before.before.replace.ensures c.before.is-final.ensures false c.if2.false
+    stepped s.requires (loaded a.n) a.number a.at.state (search rules) c.before.before.before.before.before.before.before.before.before.before.goes.ensures c.before.before.before.before.before.before.before.before.next.given.1 c.before.before.before.before.before.before.rule_at.ensures c.before.before.before.before.replace.ensures c.before.is_final.ensures false c.if2.false
 
 pub step_spec : {M : Type 1} → statement M
 step_spec =

@@ -1,7 +1,7 @@
 -- `report::budget` meets its contract. Assumes nothing.
 use native.Mathlib.Omega.{arith}
 use borrow.Author.Rules.{rules}
-use Rattle.lent.specs.Lending.{modelIn}
+use Rattle.lent.specs.Lending.{model_in}
 use Rattle.report.proofs.Answer.{fits_read, is_read}
 use Rattle.report.proofs.budget.Statement.{statement}
 use Rattle.report.proofs.budget.Tie as tie
@@ -19,7 +19,7 @@ mul-result : tie.Need-overflow-mul-result
 mul-result c =
     let read = c.before.before in
     let s = read.before in
-    let z = fits_read (modelIn s.args.m.now) s.requires read.size-of.ensures in
+    let z = fits_read (model_in s.args.m.now) s.requires read.size_of_lem.ensures in
     record { fits = omega arith }
 
 add-result : tie.Need-overflow-add-result
@@ -29,14 +29,14 @@ mul-result-2 : tie.Need-overflow-mul-result-2
 mul-result-2 c =
     let read = c.before.before in
     let s = read.before in
-    let z = fits_read (modelIn s.args.m.now) s.requires read.size-of.ensures in
+    let z = fits_read (model_in s.args.m.now) s.requires read.size_of_lem.ensures in
     record { fits = omega arith }
 
 returns : tie.Need-returns
 returns c =
     let read = c.before.before in
     let s = read.before in
-    is_read (modelIn s.args.m.now) s.requires read.size-of.ensures
+    is_read (model_in s.args.m.now) s.requires read.size_of_lem.ensures
 
 pub budget-spec : {M : Type 1} → statement M
 budget-spec =

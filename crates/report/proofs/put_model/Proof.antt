@@ -1,7 +1,7 @@
 -- `report::put_model` meets its contract. Assumes nothing.
 use mathlib.Core.Path.{refl}
-use Rattle.lent.specs.Lending.{modelIn}
-use Rattle.text.proofs.Puts.{put-length}
+use Rattle.lent.specs.Lending.{model_in}
+use Rattle.text.proofs.Puts.{put_length}
 use Rattle.report.proofs.Answer.{told}
 use borrow.Author.Rules.{rules}
 use Rattle.report.proofs.put_model.Statement.{statement}
@@ -32,10 +32,10 @@ slice-aggregate-put-told-3 : tie.Need-slice-aggregate-put-told-3
 slice-aggregate-put-told-3 c = search rules
 
 put-told-requires : tie.Need-put-told-requires
-put-told-requires c κs = told (modelIn c.before.before.before.before.before.before.before.before.before.before.before.before.before.args.m.now) c.before.before.before.before.before.before.before.before.before.before.before.before.before.requires refl refl refl c.before.before.before.before.before.before.before.before.before.before.before.budget.ensures c.before.before.before.before.before.before.before.trace.ensures
+put-told-requires c κs = told (model_in c.before.before.before.before.before.before.before.before.before.before.before.before.before.args.m.now) c.before.before.before.before.before.before.before.before.before.before.before.before.before.requires refl refl refl c.before.before.before.before.before.before.before.before.before.before.before.budget.ensures c.before.before.before.before.before.before.before.trace.ensures
 
 same_length : tie.Need-same-length
-same_length c = put-length c.before.before.put-told.ensures
+same_length c = put_length c.before.before.put-told.ensures
 
 returns : tie.Need-returns
 returns c = c.before.before.put-told.ensures

@@ -1,8 +1,8 @@
 -- `rereport::put_checked` meets its contract. Assumes nothing.
 use mathlib.Core.Path.{refl}
-use Rattle.lent.specs.Lending.{modelIn}
-use Rattle.text.proofs.Puts.{put-length}
-use Rattle.rereport.proofs.Cases.{checked-put, rule_fits, move-fits, never}
+use Rattle.lent.specs.Lending.{model_in}
+use Rattle.text.proofs.Puts.{put_length}
+use Rattle.rereport.proofs.Cases.{checked_put, rule_fits, move_fits, never}
 use native.Mathlib.Omega.{arith}
 use borrow.Author.Rules.{rules}
 use Rattle.rereport.proofs.put_checked.Statement.{statement}
@@ -41,7 +41,7 @@ cast-put-open c =
     let a = start.args in
     omega (
       arith,
-      rule_fits (modelIn a.m.now) a.heads.now a.triples.now start.requires
+      rule_fits (model_in a.m.now) a.heads.now a.triples.now start.requires
           c.before.before.before.before.check-table.ensures c.before.before.c.given.1,
     )
 
@@ -51,7 +51,7 @@ cast-put-open-2 c =
     let a = start.args in
     omega (
       arith,
-      move-fits (modelIn a.m.now) a.heads.now a.triples.now start.requires
+      move_fits (model_in a.m.now) a.heads.now a.triples.now start.requires
           c.before.before.before.before.check-table.ensures c.before.before.c.given.1,
     )
 
@@ -65,57 +65,57 @@ enum-told-5 : tie.Need-enum-told-5
 enum-told-5 c = search rules
 
 same_length : tie.Need-same-length
-same_length c = put-length c.before.before.put_all.ensures
+same_length c = put_length c.before.before.put_all.ensures
 
 returns : tie.Need-returns
 returns c =
     let start = c.before.before.before.before.before.before.before.before.before.before.before in
     let a = start.args in
-    checked-put (modelIn a.m.now) a.heads.now a.triples.now start.requires
+    checked_put (model_in a.m.now) a.heads.now a.triples.now start.requires
     c.before.before.before.before.before.before.before.check-table.ensures c.before.before.before.before.before.enum_told.given.1 c.before.before.put_all.ensures
 
 same-length-2 : tie.Need-same-length-2
-same-length-2 c = put-length c.before.before.put-open.ensures
+same-length-2 c = put_length c.before.before.put-open.ensures
 
 returns-2 : tie.Need-returns-2
 returns-2 c =
     let start = c.before.before.before.before.before.before.before.before.before.before in
     let a = start.args in
-    checked-put (modelIn a.m.now) a.heads.now a.triples.now start.requires
+    checked_put (model_in a.m.now) a.heads.now a.triples.now start.requires
     c.before.before.before.before.before.before.check-table.ensures c.before.before.before.before.enum-told2.given.1 c.before.before.put-open.ensures
 
 same-length-3 : tie.Need-same-length-3
-same-length-3 c = put-length c.before.before.put-open2.ensures
+same-length-3 c = put_length c.before.before.put-open2.ensures
 
 returns-3 : tie.Need-returns-3
 returns-3 c =
     let start = c.before.before.before.before.before.before.before.before.before.before in
     let a = start.args in
-    checked-put (modelIn a.m.now) a.heads.now a.triples.now start.requires
+    checked_put (model_in a.m.now) a.heads.now a.triples.now start.requires
     c.before.before.before.before.before.before.check-table.ensures c.before.before.before.before.enum-told3.given.1 c.before.before.put-open2.ensures
 
 same-length-4 : tie.Need-same-length-4
-same-length-4 c = put-length c.before.before.put-open3.ensures
+same-length-4 c = put_length c.before.before.put-open3.ensures
 
 returns-4 : tie.Need-returns-4
 returns-4 c =
     let start = c.before.before.before.before.before.before.before.before.before.before.before in
     let a = start.args in
-    checked-put (modelIn a.m.now) a.heads.now a.triples.now start.requires
+    checked_put (model_in a.m.now) a.heads.now a.triples.now start.requires
     c.before.before.before.before.before.before.before.check-table.ensures c.before.before.before.before.before.c.given.1 c.before.before.put-open3.ensures
 
 returns-5 : tie.Need-returns-5
 returns-5 c =
     let start = c.before.before.before.before.before.before in
     let a = start.args in
-    absurd (never (modelIn a.m.now) a.heads.now a.triples.now start.requires
+    absurd (never (model_in a.m.now) a.heads.now a.triples.now start.requires
     c.before.before.check-table.ensures c.enum-told4.given.1 6 _ (omega arith) refl)
 
 returns-6 : tie.Need-returns-6
 returns-6 c =
     let start = c.before.before.before.before.before.before in
     let a = start.args in
-    absurd (never (modelIn a.m.now) a.heads.now a.triples.now start.requires
+    absurd (never (model_in a.m.now) a.heads.now a.triples.now start.requires
     c.before.before.check-table.ensures c.enum-told5.given.1 7 _ (omega arith) refl)
 
 pub put-checked-spec : {M : Type 1} → statement M

@@ -1,9 +1,9 @@
 -- `rereport::put_listing` meets its contract. Assumes nothing.
 use mathlib.Core.Path.{refl}
-use Rattle.lent.specs.Lending.{modelIn}
-use Rattle.text.proofs.Puts.{put-length}
+use Rattle.lent.specs.Lending.{model_in}
+use Rattle.text.proofs.Puts.{put_length}
 use Rattle.fitting.proofs.Tested.{ample}
-use Rattle.rereport.proofs.Cases.{heard, heard-put}
+use Rattle.rereport.proofs.Cases.{heard, heard_put}
 use borrow.Author.Rules.{rules}
 use Rattle.rereport.proofs.put_listing.Statement.{statement}
 use Rattle.rereport.proofs.put_listing.Tie as tie
@@ -24,13 +24,13 @@ slice-aggregate-put-heard-2 : tie.Need-slice-aggregate-put-heard-2
 slice-aggregate-put-heard-2 c = search rules
 
 put-heard-requires : tie.Need-put-heard-requires
-put-heard-requires c κs = let a = c.before.before.before.before.before.before.before.before.before.before.args in heard (modelIn a.m.now) a.text.now (ample (modelIn a.m.now) c.before.before.before.before.before.before.before.before.before.before.requires refl refl) c.before.before.before.before.before.read-listing.ensures (ample (modelIn a.m.now) c.before.before.before.before.before.before.before.before.before.before.requires (search rules) (search rules))
+put-heard-requires c κs = let a = c.before.before.before.before.before.before.before.before.before.before.args in heard (model_in a.m.now) a.text.now (ample (model_in a.m.now) c.before.before.before.before.before.before.before.before.before.before.requires refl refl) c.before.before.before.before.before.read-listing.ensures (ample (model_in a.m.now) c.before.before.before.before.before.before.before.before.before.before.requires (search rules) (search rules))
 
 same_length : tie.Need-same-length
-same_length c = put-length c.before.before.put-heard.ensures
+same_length c = put_length c.before.before.put-heard.ensures
 
 returns : tie.Need-returns
-returns c = let a = c.before.before.before.before.before.before.before.before.before.before.before.before.before.args in heard-put (modelIn a.m.now) a.text.now (ample (modelIn a.m.now) c.before.before.before.before.before.before.before.before.before.before.before.before.before.requires refl refl) c.before.before.before.before.before.before.before.before.read-listing.ensures c.before.before.put-heard.ensures
+returns c = let a = c.before.before.before.before.before.before.before.before.before.before.before.before.before.args in heard_put (model_in a.m.now) a.text.now (ample (model_in a.m.now) c.before.before.before.before.before.before.before.before.before.before.before.before.before.requires refl refl) c.before.before.before.before.before.before.before.before.read-listing.ensures c.before.before.put-heard.ensures
 
 pub put-listing-spec : {M : Type 1} → statement M
 put-listing-spec =

@@ -1,9 +1,9 @@
 -- `rows::read_lines` meets its contract. The loop's invariant is `Turn`, and the arrays are as long as they were; what is left of the text falls. Assumes nothing.
 use lib.ListN.{length}
 use mathlib.Core.Path.{◌≡◌, refl, ◌∙◌}
-use Rattle.text.proofs.Split.{after-shorter}
+use Rattle.text.proofs.Split.{after_shorter}
 use Rattle.rows.specs.State.{whole, before}
-use Rattle.rows.proofs.Lines.{Turn, first-turn, refused-turn, next-turn, counted, open-line, done}
+use Rattle.rows.proofs.Lines.{Turn, first_turn, refused_turn, next_turn, counted, open_line, done}
 use borrow.Author.Rules.{rules}
 use Rattle.rows.proofs.read_lines.Statement.{statement}
 use Rattle.rows.proofs.read_lines.Tie as tie
@@ -18,7 +18,7 @@ nothing-requires : tie.Need-nothing-requires invariant-loop decreases-loop
 nothing-requires c κs = search rules
 
 loop-holds : tie.Need-loop-init invariant-loop decreases-loop
-loop-holds c = (refl, refl, first-turn _ _ _ _ c.nothing.ensures)
+loop-holds c = (refl, refl, first_turn _ _ _ _ c.nothing.ensures)
 
 read-line-requires : tie.Need-read-line-requires invariant-loop decreases-loop
 read-line-requires c κs = search rules
@@ -30,7 +30,7 @@ same-length-2 : tie.Need-same-length-2 invariant-loop decreases-loop
 same-length-2 c = search rules
 
 returns : tie.Need-returns invariant-loop decreases-loop
-returns c = open-line c.before.before.before.loop.invariant.2 c.before.read-line.ensures c.before.before.loop-test.true c.if1.true
+returns c = open_line c.before.before.before.loop.invariant.2 c.before.read-line.ensures c.before.before.loop-test.true c.if1.true
 
 take-line-requires : tie.Need-take-line-requires invariant-loop decreases-loop
 take-line-requires c κs = counted c.before.before.before.before.before.before.loop.invariant.2 c.before.before.before.before.before.before.before.before.before.before.before.requires
@@ -45,7 +45,7 @@ returns-2 : tie.Need-returns-2 invariant-loop decreases-loop
 returns-2 c =
     let taken = c.before.before.before.before.before.before in
     let read = taken.before.before.before.before.before in
-    refused-turn read.before.before.loop.invariant.2 read.read-line.ensures taken.before.before.before.before.if1.false taken.take-line.ensures c.if2.true
+    refused_turn read.before.before.loop.invariant.2 read.read-line.ensures taken.before.before.before.before.if1.false taken.take_line.ensures c.if2.true
 
 add-line : tie.Need-overflow-add-line invariant-loop decreases-loop
 add-line c = let r = c.before.before.before.before.before.before.before.before.before.before.before.before.before.loop.invariant.2.room in search rules
@@ -63,16 +63,16 @@ part-rest-end : tie.Need-slice-bounds-rest-end invariant-loop decreases-loop
 part-rest-end c = search rules
 
 loop-less : tie.Need-loop-smaller invariant-loop decreases-loop
-loop-less c = after-shorter _ c.before.before.before.before.before.before.before.before.before.before.before.before.before.before.loop.rest.now c.before.before.before.before.before.before.before.before.before.before.before.if1.false
+loop-less c = after_shorter _ c.before.before.before.before.before.before.before.before.before.before.before.before.before.before.loop.rest.now c.before.before.before.before.before.before.before.before.before.before.before.if1.false
 
 loop-again : tie.Need-loop-preserved invariant-loop decreases-loop
 loop-again c =
     let taken = c.before.before.before.before.before.before.before in
     let read = taken.before.before.before.before.before in
     let i = read.before.before.loop.invariant in (
-      taken.take-line.auto.0 ∙ i.0,
-      taken.take-line.auto.1.0 ∙ i.1,
-      next-turn i.2 read.read-line.ensures taken.before.before.before.before.if1.false taken.take-line.ensures c.before.if2.false,
+      taken.take_line.auto.0 ∙ i.0,
+      taken.take_line.auto.1.0 ∙ i.1,
+      next_turn i.2 read.read-line.ensures taken.before.before.before.before.if1.false taken.take_line.ensures c.before.if2.false,
     )
 
 finish-requires : tie.Need-finish-requires invariant-loop decreases-loop

@@ -1,15 +1,15 @@
 -- `rows::take_safe` meets its contract. Assumes nothing.
-use Rattle.rows.proofs.Steps.{safe-malformed, safe-twice, safe-large, safe-taken}
+use Rattle.rows.proofs.Steps.{safe_malformed, safe_twice, safe_large, safe_taken}
 use Rattle.rows.specs.State.{whole}
 use borrow.Author.Rules.{rules}
 use Rattle.rows.proofs.take_safe.Statement.{statement}
 use Rattle.rows.proofs.take_safe.Tie as tie
 
 returns : tie.Need-returns
-returns c = let a = c.before.before.args in λ hs ts. safe-malformed (whole a.t hs ts) a.n c.if1.true
+returns c = let a = c.before.before.args in λ hs ts. safe_malformed (whole a.t hs ts) a.n c.if1.true
 
 returns-2 : tie.Need-returns-2
-returns-2 c = let form = c.before.before in let a = form.before.before.args in λ hs ts. safe-twice (whole a.t hs ts) a.n form.if1.false c.if2.true
+returns-2 c = let form = c.before.before in let a = form.before.before.args in λ hs ts. safe_twice (whole a.t hs ts) a.n form.if1.false c.if2.true
 
 array-read-rounds : tie.Need-array-read-rounds
 array-read-rounds c = search rules
@@ -19,7 +19,7 @@ returns-3 c =
     let once = c.before.before in
     let form = once.before.before in
     let a = form.before.before.args in
-    λ hs ts. safe-large (whole a.t hs ts) a.n form.if1.false once.if2.false c.if3.true
+    λ hs ts. safe_large (whole a.t hs ts) a.n form.if1.false once.if2.false c.if3.true
 
 cast-next : tie.Need-overflow-cast-next
 cast-next c = search rules
@@ -35,7 +35,7 @@ returns-4 c =
     let once = c.before.before in
     let form = once.before.before in
     let a = form.before.before.args in
-    λ hs ts. safe-taken (whole a.t hs ts) a.n form.if1.false once.if2.false c.if3.false
+    λ hs ts. safe_taken (whole a.t hs ts) a.n form.if1.false once.if2.false c.if3.false
 
 pub take-safe-spec : {M : Type 1} → statement M
 take-safe-spec = tie.close (tie.spec returns returns-2 array-read-rounds returns-3 cast-next array-read-next array-read-next-2 returns-4)

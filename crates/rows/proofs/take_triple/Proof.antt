@@ -1,5 +1,5 @@
 -- `rows::take_triple` meets its contract. Assumes nothing.
-use Rattle.rows.proofs.Steps.{triple-unranked, triple-ranked}
+use Rattle.rows.proofs.Steps.{triple_unranked, triple_ranked}
 use borrow.Author.Rules.{rules}
 use Rattle.rows.proofs.take_triple.Statement.{statement}
 use Rattle.rows.proofs.take_triple.Tie as tie
@@ -11,7 +11,7 @@ same_length : tie.Need-same-length
 same_length c = search rules
 
 returns : tie.Need-returns
-returns c = let call = c.before.before.before in let a = call.before.before.before.args in triple-unranked a.size a.t a.n call.rank-triple.ensures c.if1.true
+returns c = let call = c.before.before.before in let a = call.before.before.before.args in triple_unranked a.size a.t a.n call.rank_triple.ensures c.if1.true
 
 add-next : tie.Need-overflow-add-next
 add-next c = search rules
@@ -20,7 +20,7 @@ same-length-2 : tie.Need-same-length-2
 same-length-2 c = search rules
 
 returns-2 : tie.Need-returns-2
-returns-2 c = let call = c.before.before.before.before in let a = call.before.before.before.args in triple-ranked a.size a.t a.n call.rank-triple.ensures c.before.if1.false
+returns-2 c = let call = c.before.before.before.before in let a = call.before.before.before.args in triple_ranked a.size a.t a.n call.rank_triple.ensures c.before.if1.false
 
 pub take-triple-spec : {M : Type 1} → statement M
 take-triple-spec = tie.close (tie.spec rank-triple-requires same_length returns add-next same-length-2 returns-2)

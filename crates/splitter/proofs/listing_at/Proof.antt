@@ -4,15 +4,15 @@ use mathlib.Core.Bool.{false}
 use mathlib.Core.Logic.{⊎_elim, inl, inr}
 use Prim.Native.Nat.{ℕ, ◌+◌, ◌-◌, ◌<◌, ◌≤◌}
 use lib.ListN.{length}
-use Rattle.splitter.specs.Search.{safeAt}
-use Rattle.splitter.proofs.Place.{place_here, place_none, none-but, four-passed}
+use Rattle.splitter.specs.Search.{safe_at}
+use Rattle.splitter.proofs.Place.{place_here, place_none, none_but, four_passed}
 use borrow.Author.Rules.{rules}
 use native.Mathlib.Omega.{arith}
 use Rattle.splitter.proofs.listing_at.Statement.{statement}
 use Rattle.splitter.proofs.listing_at.Tie as tie
 
 abbrev invariant-loop : tie.invariant-loop
-invariant-loop text n last₀ last = (n ≡ length text) × (3 ≤ last) × ((i : ℕ) → i + 3 < last → safeAt text i ≡ false)
+invariant-loop text n last₀ last = (n ≡ length text) × (3 ≤ last) × ((i : ℕ) → i + 3 < last → safe_at text i ≡ false)
 
 abbrev decreases-loop : tie.decreases-loop
 decreases-loop text n last₀ last = n - last
@@ -37,7 +37,7 @@ returns c =
     let l = c.before.before.before.before.before.before.loop in
     let t = c.before.before.before.before.before.before.before.before.args.text.now in
     let g = c.before.before.before.letter-of in
-    place_here t (l.last - g.result) (λ i h. none-but t l.last l.invariant.2 g.result g.ensures i (omega arith) (λ e. omega arith)) (omega arith) (sym c.before.safe_at.ensures ∙ c.if2.true)
+    place_here t (l.last - g.result) (λ i h. none_but t l.last l.invariant.2 g.result g.ensures i (omega arith) (λ e. omega arith)) (omega arith) (sym c.before.safe_at.ensures ∙ c.if2.true)
 
 add-last : tie.Need-overflow-add-last invariant-loop decreases-loop
 add-last c = search rules
@@ -49,7 +49,7 @@ loop-again : tie.Need-loop-preserved invariant-loop decreases-loop
 loop-again c =
     let l = c.before.before.before.before.loop in
     let g = c.before.letter-of in
-    let passed = four-passed c.before.before.before.before.before.before.args.text.now l.last l.invariant.2 g.result g.ensures in
+    let passed = four_passed c.before.before.before.before.before.before.args.text.now l.last l.invariant.2 g.result g.ensures in
     (search rules, omega arith, passed (⊎_elim (λ w. inr (omega arith, sym w.1.ensures ∙ w.2.left)) (λ w. inl w.left) c.if1.branch))
 
 returns-2 : tie.Need-returns-2 invariant-loop decreases-loop

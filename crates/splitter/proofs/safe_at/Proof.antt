@@ -1,7 +1,7 @@
 -- `splitter::safe_at` meets its contract. Assumes nothing.
 use mathlib.Core.Path.{◌∙◌}
 use borrow.Author.Rules.{rules}
-use Rattle.splitter.proofs.Place.{safe-first, safe-inside, safe-behind}
+use Rattle.splitter.proofs.Place.{safe_first, safe_inside, safe_behind_lem}
 use Rattle.splitter.proofs.safe_at.Statement.{statement}
 use Rattle.splitter.proofs.safe_at.Tie as tie
 
@@ -9,7 +9,7 @@ starts-safe-requires : tie.Need-starts-safe-requires
 starts-safe-requires c κs = search rules
 
 returns : tie.Need-returns
-returns c = let a = c.before.before.before.args in c.starts-safe.ensures ∙ safe-first a.text.now a.at c.before.if1.true
+returns c = let a = c.before.before.before.args in c.starts-safe.ensures ∙ safe_first a.text.now a.at c.before.if1.true
 
 sub-if2 : tie.Need-overflow-sub-if2
 sub-if2 c = search rules
@@ -18,7 +18,7 @@ shared-slice-read-if2 : tie.Need-shared-slice-read-if2
 shared-slice-read-if2 c = search rules
 
 returns-2 : tie.Need-returns-2
-returns-2 c = let a = c.before.before.before.before.args in safe-inside a.text.now a.at c.before.before.if1.false c.if2.true
+returns-2 c = let a = c.before.before.before.before.args in safe_inside a.text.now a.at c.before.before.if1.false c.if2.true
 
 sub-starts-safe : tie.Need-overflow-sub-starts-safe
 sub-starts-safe c = search rules
@@ -33,7 +33,7 @@ starts-safe-requires-2 : tie.Need-starts-safe-requires-2
 starts-safe-requires-2 c κs = search rules
 
 returns-3 : tie.Need-returns-3
-returns-3 c = let a = c.before.before.before.before.before.before.args in c.starts-safe2.ensures ∙ safe-behind a.text.now a.at c.before.before.before.before.if1.false c.before.before.if2.false
+returns-3 c = let a = c.before.before.before.before.before.before.args in c.starts-safe2.ensures ∙ safe_behind_lem a.text.now a.at c.before.before.before.before.if1.false c.before.before.if2.false
 
 pub safe-at-spec : {M : Type 1} → statement M
 safe-at-spec =

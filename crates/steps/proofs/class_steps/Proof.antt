@@ -4,14 +4,14 @@ use Prim.Native.Nat.{◌≤◌, ◌-◌, min}
 use native.Mathlib.Omega.{arith}
 use borrow.Author.Rules.{rules}
 use Rattle.model.specs.declared.Shape.{Shape}
-use Rattle.lent.specs.Lending.{modelIn}
-use Rattle.steps.specs.Events.{eventSteps}
-use Rattle.steps.proofs.Built.{Filled, filled_none, filled_more, filled-all, symbol-is}
+use Rattle.lent.specs.Lending.{model_in}
+use Rattle.steps.specs.Events.{event_steps}
+use Rattle.steps.proofs.Built.{Filled, filled_none, filled_more, filled_all, symbol_is}
 use Rattle.steps.proofs.class_steps.Statement.{statement}
 use Rattle.steps.proofs.class_steps.Tie as tie
 
 abbrev invariant-loop : tie.invariant-loop
-invariant-loop m on tg₀ n g₀ tg g = (g ≤ n) × (n ≤ 32) × Filled (modelIn m) g tg
+invariant-loop m on tg₀ n g₀ tg g = (g ≤ n) × (n ≤ 32) × Filled (model_in m) g tg
 
 abbrev decreases-loop : tie.decreases-loop
 decreases-loop m on tg₀ n g₀ tg g = n - g
@@ -29,7 +29,7 @@ at-most-requires : tie.Need-at-most-requires invariant-loop decreases-loop
 at-most-requires c κs = search rules
 
 loop-holds : tie.Need-loop-init invariant-loop decreases-loop
-loop-holds c = (omega arith, omega arith, filled_none (modelIn c.before.before.before.before.args.m.now))
+loop-holds c = (omega arith, omega arith, filled_none (model_in c.before.before.before.before.args.m.now))
 
 symbol-steps-requires : tie.Need-symbol-steps-requires invariant-loop decreases-loop
 symbol-steps-requires c κs = search rules
@@ -47,18 +47,18 @@ loop-less : tie.Need-loop-smaller invariant-loop decreases-loop
 loop-less c = search rules
 
 loop-again : tie.Need-loop-preserved invariant-loop decreases-loop
-unfolding modelIn
+unfolding model_in
 loop-again c =
     let turn = c.before.before.before in
     let built = turn.before.before.before in
     let read = built.before in
-    let m = modelIn read.before.args.m.now in
+    let m = model_in read.before.args.m.now in
     let l = turn.loop in
-    let on-is = built.by-event.ensures ∙ ap (λ (s : Shape). eventSteps m s.moves) read.shape.ensures in
-    (omega arith, omega arith, filled_more m l.g l.tg _ (omega arith) l.invariant.2 (symbol-is m l.g _ on-is c.symbol-steps.ensures))
+    let on-is = built.by-event.ensures ∙ ap (λ (s : Shape). event_steps m s.moves) read.shape.ensures in
+    (omega arith, omega arith, filled_more m l.g l.tg _ (omega arith) l.invariant.2 (symbol_is m l.g _ on-is c.symbol-steps.ensures))
 
 returns : tie.Need-returns invariant-loop decreases-loop
-unfolding modelIn
+unfolding model_in
 returns c =
     let turn = c.before in
     let counted = turn.before in
@@ -66,7 +66,7 @@ returns c =
     let l = turn.loop in
     let all = ap (λ (s : Shape). min s.symbols 32) read.shape.ensures in
     let few = counted.at_most.ensures in
-    filled-all (modelIn read.before.args.m.now) l.g l.tg (omega arith) l.invariant.2
+    filled_all (model_in read.before.args.m.now) l.g l.tg (omega arith) l.invariant.2
 
 pub class-steps-spec : {M : Type 1} → statement M
 class-steps-spec =

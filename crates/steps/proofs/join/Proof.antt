@@ -4,9 +4,9 @@ use Prim.Native.Nat.{◌<◌, ◌^◌}
 use lib.Count.{trailing_le}
 use borrow.Author.Rules.{rules}
 use native.Mathlib.Omega.{arith}
-use Rattle.bits.proofs.Lowest.{cleared-less}
+use Rattle.bits.proofs.Lowest.{cleared_less}
 use Rattle.bits.proofs.Some.{low64}
-use Rattle.steps.proofs.Marks.{Left, left-next, left-last}
+use Rattle.steps.proofs.Marks.{Left, left_next, left_last}
 use Rattle.steps.proofs.join.Statement.{statement}
 use Rattle.steps.proofs.join.Tie as tie
 
@@ -35,19 +35,19 @@ element-copy-out-r : tie.Need-element-copy-out-r invariant-loop decreases-loop
 element-copy-out-r c = omega (arith, low64 c.before.loop.d (omega arith) c.before.loop.invariant.0)
 
 loop-less : tie.Need-loop-smaller invariant-loop decreases-loop
-loop-less c = cleared-less c.before.before.loop.d (omega arith)
+loop-less c = cleared_less c.before.before.loop.d (omega arith)
 
 loop-again : tie.Need-loop-preserved invariant-loop decreases-loop
 loop-again c =
     let a = c.before.before.before.args in
     let l = c.before.before.loop in
-    (omega (arith, cleared-less l.d (omega arith)), left-next a.on.now a.from a.w a.m l.d l.r (omega arith) l.invariant.0 l.invariant.1)
+    (omega (arith, cleared_less l.d (omega arith)), left_next a.on.now a.from a.w a.m l.d l.r (omega arith) l.invariant.0 l.invariant.1)
 
 returns : tie.Need-returns invariant-loop decreases-loop
 returns c =
     let a = c.before.before.args in
     let l = c.before.loop in
-    left-last a.on.now a.from a.w a.m l.d l.r (omega arith) l.invariant.1
+    left_last a.on.now a.from a.w a.m l.d l.r (omega arith) l.invariant.1
 
 pub join-spec : {M : Type 1} → statement M
 join-spec =

@@ -1,6 +1,6 @@
 -- `steps::put_move` meets its contract. Assumes nothing.
 use borrow.Author.Rules.{rules}
-use Rattle.steps.proofs.Events.{no_source, no_target, no-event, is-put}
+use Rattle.steps.proofs.Events.{no_source, no_target, no_event, is_put}
 use Rattle.steps.proofs.put_move.Statement.{statement}
 use Rattle.steps.proofs.put_move.Tie as tie
 
@@ -11,7 +11,7 @@ returns-2 : tie.Need-returns-2
 returns-2 c = no_target _ _ _ _ c.before.if1.false c.if2.true
 
 returns-3 : tie.Need-returns-3
-returns-3 c = no-event _ _ _ _ c.before.before.if1.false c.before.if2.false c.if3.true
+returns-3 c = no_event _ _ _ _ c.before.before.if1.false c.before.if2.false c.if3.true
 
 mul-on : tie.Need-overflow-mul-on
 mul-on c = search rules
@@ -35,7 +35,7 @@ element-write-on : tie.Need-element-write-on
 element-write-on c = search rules
 
 returns-4 : tie.Need-returns-4
-returns-4 c = is-put _ _ _ _ c.before.before.before.if1.false c.before.before.if2.false c.before.if3.false
+returns-4 c = is_put _ _ _ _ c.before.before.before.if1.false c.before.before.if2.false c.before.if3.false
 
 pub put-move-spec : {M : Type 1} → statement M
 put-move-spec =

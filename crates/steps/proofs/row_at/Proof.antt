@@ -1,12 +1,12 @@
 -- `steps::row_at` meets its contract. Assumes nothing.
-use Rattle.steps.proofs.Rows.{row_read, row-past}
+use Rattle.steps.proofs.Rows.{row_read, row_past}
 use mathlib.Core.Path.{refl}
 use borrow.Author.Rules.{rules}
 use Rattle.steps.proofs.row_at.Statement.{statement}
 use Rattle.steps.proofs.row_at.Tie as tie
 
 returns : tie.Need-returns
-returns c = row-past _ _ c.if1.true
+returns c = row_past _ _ c.if1.true
 
 mul_at : tie.Need-overflow-mul-at
 mul_at c = search rules

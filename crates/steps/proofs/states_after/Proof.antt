@@ -1,7 +1,7 @@
 -- `steps::states_after` meets its contract. Assumes nothing.
 use borrow.Author.Rules.{rules}
-use Rattle.lent.specs.Lending.{modelIn}
-use Rattle.steps.proofs.Built.{is-after}
+use Rattle.lent.specs.Lending.{model_in}
+use Rattle.steps.proofs.Built.{is_after}
 use Rattle.steps.proofs.states_after.Statement.{statement}
 use Rattle.steps.proofs.states_after.Tie as tie
 
@@ -18,7 +18,7 @@ through-requires : tie.Need-through-requires
 through-requires c κs = search rules
 
 returns : tie.Need-returns
-returns c = is-after (modelIn c.before.before.before.args.m.now) c.before.before.before.args.tg.now c.before.before.before.args.r c.before.before.before.args.from c.before.before.class-of.ensures.0 c.through.ensures
+returns c = is_after (model_in c.before.before.before.args.m.now) c.before.before.before.args.tg.now c.before.before.before.args.r c.before.before.before.args.from c.before.before.class_of_lem.ensures.0 c.through.ensures
 
 pub states-after-spec : {M : Type 1} → statement M
 states-after-spec =

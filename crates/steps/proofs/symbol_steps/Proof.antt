@@ -1,7 +1,7 @@
 -- `steps::symbol_steps` meets its contract. Assumes nothing.
 use borrow.Author.Rules.{rules}
-use Rattle.lent.specs.Lending.{modelIn}
-use Rattle.steps.proofs.Marks.{joined-shown}
+use Rattle.lent.specs.Lending.{model_in}
+use Rattle.steps.proofs.Marks.{joined_shown}
 use Rattle.steps.proofs.symbol_steps.Statement.{statement}
 use Rattle.steps.proofs.symbol_steps.Tie as tie
 
@@ -29,7 +29,7 @@ join-requires-2 c κs = search rules
 returns : tie.Need-returns
 returns c =
     let a = c.before.before.before.before.before.args in
-    joined-shown a.on.now (modelIn a.m.now).shows a.g _ _ c.before.before.before.before.eight.ensures c.before.eight2.ensures c.before.before.join.ensures c.join2.ensures
+    joined_shown a.on.now (model_in a.m.now).shows a.g _ _ c.before.before.before.before.eight.ensures c.before.eight2.ensures c.before.before.join.ensures c.join2.ensures
 
 pub symbol-steps-spec : {M : Type 1} → statement M
 symbol-steps-spec =

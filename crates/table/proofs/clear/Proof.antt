@@ -1,7 +1,7 @@
 -- `table::clear` meets its contract. Assumes nothing.
 use native.Mathlib.Omega.{arith}
 use borrow.Author.Rules.{rules}
-use Rattle.table.proofs.Cells.{cleared-past}
+use Rattle.table.proofs.Cells.{cleared_past}
 use Rattle.table.proofs.clear.Statement.{statement}
 use Rattle.table.proofs.clear.Tie as tie
 
@@ -12,7 +12,7 @@ same_length : tie.Need-same-length
 same_length c = search rules
 
 returns : tie.Need-returns
-returns c = cleared-past _ _ _ _ (omega arith) (omega arith) c.before.before.fill.ensures
+returns c = cleared_past _ _ _ _ (omega arith) (omega arith) c.before.before.fill.ensures
 
 fill-requires-2 : tie.Need-fill-requires-2
 fill-requires-2 c κs = search rules

@@ -5,7 +5,7 @@ use lib.ListN.{length, length-set}
 use borrow.Author.Rules.{rules}
 use native.Mathlib.Omega.{arith}
 use Rattle.table.specs.Cells.{cleared}
-use Rattle.table.proofs.Cells.{cleared-none, cleared_more}
+use Rattle.table.proofs.Cells.{cleared_none, cleared_more}
 use Rattle.table.proofs.fill.Statement.{statement}
 use Rattle.table.proofs.fill.Tie as tie
 
@@ -16,7 +16,7 @@ abbrev decreases-loop : tie.decreases-loop
 decreases-loop cells₀ n i₀ cells i = n - i
 
 loop-holds : tie.Need-loop-init invariant-loop decreases-loop
-loop-holds c = (search rules, refl, cleared-none _)
+loop-holds c = (search rules, refl, cleared_none _)
 
 mul-cells : tie.Need-overflow-mul-cells invariant-loop decreases-loop
 mul-cells c = search rules

@@ -1,7 +1,7 @@
 -- `table::place_of` meets its contract. Assumes nothing.
 use native.Mathlib.Omega.{arith}
 use borrow.Author.Rules.{rules}
-use Rattle.table.proofs.Places.{triple-row, triple-end, triple-cell, triple-small}
+use Rattle.table.proofs.Places.{triple_row, triple_end, triple_cell, triple_small}
 use Rattle.table.proofs.place_of.Statement.{statement}
 use Rattle.table.proofs.place_of.Tie as tie
 
@@ -28,7 +28,7 @@ returns c =
     let row = c.before.before in
     let told = row.before.before in
     let (q, (g, (e, _))) = told.f2.given.0 in
-    rw told.f2.given.1 (triple-row _ _ q g row.row2.ensures e c.enum_told.given.1)
+    rw told.f2.given.1 (triple_row _ _ q g row.row2.ensures e c.enum_told.given.1)
 
 cast-if1 : tie.Need-overflow-cast-if1
 cast-if1 c = search rules
@@ -39,7 +39,7 @@ returns-2 c =
     let row = cell.before.before in
     let told = row.before.before in
     let (q, (g, (e, _))) = told.f2.given.0 in
-    rw told.f2.given.1 (triple-end _ _ q g row.row2.ensures e cell.first.given.1 c.if1.true)
+    rw told.f2.given.1 (triple_end _ _ q g row.row2.ensures e cell.first.given.1 c.if1.true)
 
 cast-t11 : tie.Need-overflow-cast-t11
 cast-t11 c = search rules
@@ -49,14 +49,14 @@ mul-t13 c =
     let cell = c.before.before.before.before in
     let row = cell.before.before in
     let (q, (g, (e, _))) = row.before.before.f2.given.0 in
-    omega (arith, triple-small _ _ q g row.row2.ensures e cell.first.given.1 (omega arith) (omega arith) c.before.if1.false)
+    omega (arith, triple_small _ _ q g row.row2.ensures e cell.first.given.1 (omega arith) (omega arith) c.before.if1.false)
 
 add-t14 : tie.Need-overflow-add-t14
 add-t14 c =
     let cell = c.before.before.before.before in
     let row = cell.before.before in
     let (q, (g, (e, _))) = row.before.before.f2.given.0 in
-    omega (arith, triple-small _ _ q g row.row2.ensures e cell.first.given.1 (omega arith) (omega arith) c.before.if1.false)
+    omega (arith, triple_small _ _ q g row.row2.ensures e cell.first.given.1 (omega arith) (omega arith) c.before.if1.false)
 
 returns-3 : tie.Need-returns-3
 returns-3 c = rw c.before.before.f.given.1 c.row.ensures
@@ -67,7 +67,7 @@ returns-4 c =
     let row = cell.before.before in
     let told = row.before.before in
     let (q, (g, (e, _))) = told.f2.given.0 in
-    rw told.f2.given.1 (triple-cell _ _ q g row.row2.ensures e cell.first.given.1 c.before.if1.false)
+    rw told.f2.given.1 (triple_cell _ _ q g row.row2.ensures e cell.first.given.1 c.before.if1.false)
 
 pub place-of-spec : {M : Type 1} → statement M
 place-of-spec =

@@ -1,5 +1,5 @@
 -- `table::rank_at` meets its contract. Assumes nothing.
-use Rattle.table.proofs.Places.{rank-head, rank-triple}
+use Rattle.table.proofs.Places.{rank_head, rank_triple}
 use Rattle.table.proofs.rank_at.Statement.{statement}
 use Rattle.table.proofs.rank_at.Tie as tie
 
@@ -21,12 +21,12 @@ read-requires-2 c κs = tt
 returns : tie.Need-returns
 returns c =
     let a = c.before.before.before.before.before.before.args in
-    rank-head a.size.symbols a.size.states a.heads.now a.triples.now c.before.enum_told.given.1 c.before.before.before.place-of.ensures c.read.ensures
+    rank_head a.size.symbols a.size.states a.heads.now a.triples.now c.before.enum_told.given.1 c.before.before.before.place_of_lem.ensures c.read.ensures
 
 returns-2 : tie.Need-returns-2
 returns-2 c =
     let a = c.before.before.before.before.before.before.args in
-    rank-triple a.size.symbols a.size.states a.heads.now a.triples.now c.before.enum-told2.given.1 c.before.before.before.place-of.ensures c.read2.ensures
+    rank_triple a.size.symbols a.size.states a.heads.now a.triples.now c.before.enum-told2.given.1 c.before.before.before.place_of_lem.ensures c.read2.ensures
 
 pub rank-at-spec : {M : Type 1} → statement M
 rank-at-spec = tie.close (tie.spec place-of-requires enum_told read-requires enum-told-2 read-requires-2 returns returns-2)

@@ -1,6 +1,6 @@
 -- `table::read` meets its contract. Assumes nothing.
 use borrow.Author.Rules.{rules}
-use Rattle.table.proofs.Places.{read-nowhere, read_past, read_cell}
+use Rattle.table.proofs.Places.{read_nowhere, read_past, read_cell}
 use Rattle.table.proofs.read.Statement.{statement}
 use Rattle.table.proofs.read.Tie as tie
 
@@ -20,7 +20,7 @@ shared-slice-read-result : tie.Need-shared-slice-read-result
 shared-slice-read-result c = search rules
 
 returns-2 : tie.Need-returns-2
-returns-2 c = read-nowhere c.before.before.args.cells.now c.enum_told.given.1
+returns-2 c = read_nowhere c.before.before.args.cells.now c.enum_told.given.1
 
 returns-3 : tie.Need-returns-3
 returns-3 c = read_cell c.before.before.before.before.before.args.cells.now c.before.before.before.place.given.1

@@ -1,8 +1,8 @@
 -- `table::row` meets its contract. Assumes nothing.
 use native.Mathlib.Omega.{arith}
 use borrow.Author.Rules.{rules}
-use Rattle.table.proofs.Bytes.{cell-small}
-use Rattle.table.proofs.Places.{head-state, head-symbol, head-cell}
+use Rattle.table.proofs.Bytes.{cell_small}
+use Rattle.table.proofs.Places.{head_state, head_symbol, head_cell_lem}
 use Rattle.table.proofs.row.Statement.{statement}
 use Rattle.table.proofs.row.Tie as tie
 
@@ -12,7 +12,7 @@ cast-if1 c = search rules
 returns : tie.Need-returns
 returns c =
     let a = c.before.before.args in
-    head-state a.size.symbols a.size.states a.q a.g c.if1.true
+    head_state a.size.symbols a.size.states a.q a.g c.if1.true
 
 cast-if2 : tie.Need-overflow-cast-if2
 cast-if2 c = search rules
@@ -20,7 +20,7 @@ cast-if2 c = search rules
 returns-2 : tie.Need-returns-2
 returns-2 c =
     let a = c.before.before.before.before.args in
-    head-symbol a.size.symbols a.size.states a.q a.g c.before.before.if1.false c.if2.true
+    head_symbol a.size.symbols a.size.states a.q a.g c.before.before.if1.false c.if2.true
 
 cast-t4 : tie.Need-overflow-cast-t4
 cast-t4 c = search rules
@@ -28,17 +28,17 @@ cast-t4 c = search rules
 mul-t6 : tie.Need-overflow-mul-t6
 mul-t6 c =
     let a = c.before.before.before.before.before.args in
-    omega (arith, cell-small {a = a.q} {b = a.size.symbols} {c = a.g} 255 (omega arith) (omega arith) (omega arith))
+    omega (arith, cell_small {a = a.q} {b = a.size.symbols} {c = a.g} 255 (omega arith) (omega arith) (omega arith))
 
 add-t7 : tie.Need-overflow-add-t7
 add-t7 c =
     let a = c.before.before.before.before.before.args in
-    omega (arith, cell-small {a = a.q} {b = a.size.symbols} {c = a.g} 255 (omega arith) (omega arith) (omega arith))
+    omega (arith, cell_small {a = a.q} {b = a.size.symbols} {c = a.g} 255 (omega arith) (omega arith) (omega arith))
 
 returns-3 : tie.Need-returns-3
 returns-3 c =
     let a = c.before.before.before.before.before.args in
-    head-cell a.size.symbols a.size.states a.q a.g c.before.before.before.if1.false c.before.if2.false
+    head_cell_lem a.size.symbols a.size.states a.q a.g c.before.before.before.if1.false c.before.if2.false
 
 pub row-spec : {M : Type 1} → statement M
 row-spec =

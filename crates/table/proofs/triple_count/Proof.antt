@@ -2,7 +2,7 @@
 use Prim.Native.Nat.{◌≤◌}
 use native.Mathlib.Omega.{arith}
 use borrow.Author.Rules.{rules}
-use Rattle.table.proofs.Bytes.{cell-small}
+use Rattle.table.proofs.Bytes.{cell_small}
 use Rattle.table.proofs.triple_count.Statement.{statement}
 use Rattle.table.proofs.triple_count.Tie as tie
 
@@ -15,12 +15,12 @@ cast-result c = search rules
 mul-result : tie.Need-overflow-mul-result
 mul-result c =
     let a = c.before.before.args in
-    let x : c.before.head-count.result ≤ 65280 =
-    omega (arith, c.before.head-count.ensures, cell-small {a = a.size.states} {b = a.size.symbols} {c = 0} 255 (omega arith) (omega arith) (omega arith)) in
-    omega (arith, cell-small {a = c.before.head-count.result} {b = a.size.states} {c = 0} 65280 x (omega arith) (omega arith))
+    let x : c.before.head_count_lem.result ≤ 65280 =
+    omega (arith, c.before.head_count_lem.ensures, cell_small {a = a.size.states} {b = a.size.symbols} {c = 0} 255 (omega arith) (omega arith) (omega arith)) in
+    omega (arith, cell_small {a = c.before.head_count_lem.result} {b = a.size.states} {c = 0} 65280 x (omega arith) (omega arith))
 
 returns : tie.Need-returns
-returns c = rw c.before.head-count.ensures
+returns c = rw c.before.head_count_lem.ensures
 
 pub triple-count-spec : {M : Type 1} → statement M
 triple-count-spec = tie.close (tie.spec head-count-requires cast-result mul-result returns)

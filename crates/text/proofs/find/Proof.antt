@@ -6,7 +6,7 @@ use native.Mathlib.Omega.{arith}
 use lib.ListN.{length, drop}
 use borrow.Author.Rules.{rules}
 use Rattle.text.specs.Split.{first}
-use Rattle.text.proofs.Split.{first-at, first_next, first-end}
+use Rattle.text.proofs.Split.{first_at, first_next, first_end}
 use Rattle.text.proofs.find.Statement.{statement}
 use Rattle.text.proofs.find.Tie as tie
 
@@ -26,7 +26,7 @@ returns : tie.Need-returns invariant-loop decreases-loop
 returns c =
     let l = c.before.before.before.loop in
     let a = c.before.before.before.before.args in
-    omega (arith, ap length (first-at a.c a.s.now l.at (omega arith) c.if1.true))
+    omega (arith, ap length (first_at a.c a.s.now l.at (omega arith) c.if1.true))
 
 add_at : tie.Need-overflow-add-at invariant-loop decreases-loop
 add_at c = omega arith
@@ -44,7 +44,7 @@ returns-2 : tie.Need-returns-2 invariant-loop decreases-loop
 returns-2 c =
     let l = c.before.loop in
     let a = c.before.before.args in
-    omega (arith, ap length (first-end a.c a.s.now l.at (omega arith)))
+    omega (arith, ap length (first_end a.c a.s.now l.at (omega arith)))
 
 pub find_spec : {M : Type 1} → statement M
 find_spec =

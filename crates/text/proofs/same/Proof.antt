@@ -2,15 +2,15 @@
 use Prim.Native.Nat.{◌≤◌, ◌-◌}
 use mathlib.Core.Path.{◌≡◌, sym, ◌∙◌}
 use lib.ListN.{length, drop}
-use Rattle.text.specs.Split.{sameBytes}
-use Rattle.text.proofs.Bytes.{same_next, same_not, same-short, same-long, same_end}
+use Rattle.text.specs.Split.{same_bytes}
+use Rattle.text.proofs.Bytes.{same_next, same_not, same_short, same_long, same_end}
 use native.Mathlib.Omega.{arith}
 use borrow.Author.Rules.{rules}
 use Rattle.text.proofs.same.Statement.{statement}
 use Rattle.text.proofs.same.Tie as tie
 
 abbrev invariant-loop : tie.invariant-loop
-invariant-loop a b i₀ i = (i ≤ length a) × (i ≤ length b) × (sameBytes (drop i a) (drop i b) ≡ sameBytes a b)
+invariant-loop a b i₀ i = (i ≤ length a) × (i ≤ length b) × (same_bytes (drop i a) (drop i b) ≡ same_bytes a b)
 
 abbrev decreases-loop : tie.decreases-loop
 decreases-loop a b i₀ i = length a - i
@@ -22,7 +22,7 @@ returns : tie.Need-returns invariant-loop decreases-loop
 returns c =
     let l = c.before.before.loop in
     let a = c.before.before.before.args in
-    sym (same-short l.i a.a.now a.b.now (omega arith) (omega arith)) ∙ l.invariant.2
+    sym (same_short l.i a.a.now a.b.now (omega arith) (omega arith)) ∙ l.invariant.2
 
 shared-slice-read-if2 : tie.Need-shared-slice-read-if2 invariant-loop decreases-loop
 shared-slice-read-if2 c = search rules
@@ -58,7 +58,7 @@ returns-4 : tie.Need-returns-4 invariant-loop decreases-loop
 returns-4 c =
     let l = c.before.before.loop in
     let a = c.before.before.before.args in
-    sym (same-long l.i a.a.now a.b.now (omega arith) (omega arith)) ∙ l.invariant.2
+    sym (same_long l.i a.a.now a.b.now (omega arith) (omega arith)) ∙ l.invariant.2
 
 pub same_spec : {M : Type 1} → statement M
 same_spec =

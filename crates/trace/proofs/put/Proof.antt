@@ -1,7 +1,7 @@
 -- `trace::put` meets its contract. Assumes nothing.
 use borrow.Author.Rules.{rules}
 use native.Mathlib.Omega.{arith}
-use Rattle.text.proofs.Puts.{one-past, one-put}
+use Rattle.text.proofs.Puts.{one_past, one_put}
 use Rattle.trace.proofs.put.Statement.{statement}
 use Rattle.trace.proofs.put.Tie as tie
 
@@ -9,7 +9,7 @@ add-result : tie.Need-overflow-add-result
 add-result c = search rules
 
 returns : tie.Need-returns
-returns c = one-past _ _ _ c.if1.true
+returns c = one_past _ _ _ c.if1.true
 
 mul-room : tie.Need-overflow-mul-room
 mul-room c = search rules
@@ -33,7 +33,7 @@ same_length : tie.Need-same-length
 same_length c = search rules
 
 returns-2 : tie.Need-returns-2
-returns-2 c = one-put _ _ _ (omega arith)
+returns-2 c = one_put _ _ _ (omega arith)
 
 pub put_spec : {M : Type 1} → statement M
 put_spec =

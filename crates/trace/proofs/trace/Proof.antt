@@ -1,9 +1,9 @@
 -- `trace::trace` meets its contract: after a violation the arrays are the table of ranks that `write_trace` asks for. Assumes nothing.
 use mathlib.Core.Path.{refl}
 use borrow.Author.Rules.{rules}
-use Rattle.lent.specs.Lending.{modelIn}
-use Rattle.trace.proofs.Write.{ranked-by, written-by}
-use Rattle.trace.proofs.Outcome.{ranked, outcome-traced, outcome-other}
+use Rattle.lent.specs.Lending.{model_in}
+use Rattle.trace.proofs.Write.{ranked_by, written_by}
+use Rattle.trace.proofs.Outcome.{ranked, outcome_traced, outcome_other}
 use Rattle.trace.proofs.trace.Statement.{statement}
 use Rattle.trace.proofs.trace.Tie as tie
 
@@ -22,8 +22,8 @@ write-trace-requires c κs =
     let ran = read.before.before.before.before.before.before.before.before in
     let a = ran.before.before.before.before.before.before.args in (
       read.shape.ensures,
-      ranked-by a.m.now read.shape.ensures
-          (ranked (modelIn a.m.now) a.budget a.heads.now a.triples.now _ _ ran.decide.ensures _ read.before.before.d.given.1),
+      ranked_by a.m.now read.shape.ensures
+          (ranked (model_in a.m.now) a.budget a.heads.now a.triples.now _ _ ran.decide.ensures _ read.before.before.d.given.1),
     )
 
 enum-known-d-2 : tie.Need-enum-known-d-2
@@ -53,8 +53,8 @@ returns c =
     let read = wrote.before.before.before.before in
     let ran = read.before.before.before.before.before.before.before.before in
     let a = ran.before.before.before.before.before.before.args in
-    outcome-traced (modelIn a.m.now) a.budget a.heads.now a.triples.now _ _ ran.decide.ensures _ read.before.before.d.given.1
-    (written-by a.m.now read.shape.ensures wrote.write-trace.ensures)
+    outcome_traced (model_in a.m.now) a.budget a.heads.now a.triples.now _ _ ran.decide.ensures _ read.before.before.d.given.1
+    (written_by a.m.now read.shape.ensures wrote.write-trace.ensures)
 
 same-length-4 : tie.Need-same-length-4
 same-length-4 c = search rules
@@ -66,7 +66,7 @@ returns-2 : tie.Need-returns-2
 returns-2 c =
     let ran = c.before.before.before.before.before.before.before in
     let a = ran.before.before.before.before.before.before.args in
-    outcome-other (modelIn a.m.now) a.budget a.heads.now a.triples.now _ _ a.room.now ran.decide.ensures _ c.before.d2.given.1 _ refl refl
+    outcome_other (model_in a.m.now) a.budget a.heads.now a.triples.now _ _ a.room.now ran.decide.ensures _ c.before.d2.given.1 _ refl refl
 
 same-length-6 : tie.Need-same-length-6
 same-length-6 c = search rules
@@ -78,7 +78,7 @@ returns-3 : tie.Need-returns-3
 returns-3 c =
     let ran = c.before.before.before.before.before.before in
     let a = ran.before.before.before.before.before.before.args in
-    outcome-other (modelIn a.m.now) a.budget a.heads.now a.triples.now _ _ a.room.now ran.decide.ensures _ c.enum_told.given.1 _ refl refl
+    outcome_other (model_in a.m.now) a.budget a.heads.now a.triples.now _ _ a.room.now ran.decide.ensures _ c.enum_told.given.1 _ refl refl
 
 same-length-8 : tie.Need-same-length-8
 same-length-8 c = search rules
@@ -90,7 +90,7 @@ returns-4 : tie.Need-returns-4
 returns-4 c =
     let ran = c.before.before.before.before.before.before in
     let a = ran.before.before.before.before.before.before.args in
-    outcome-other (modelIn a.m.now) a.budget a.heads.now a.triples.now _ _ a.room.now ran.decide.ensures _ c.enum-told2.given.1 _ refl refl
+    outcome_other (model_in a.m.now) a.budget a.heads.now a.triples.now _ _ a.room.now ran.decide.ensures _ c.enum-told2.given.1 _ refl refl
 
 same-length-10 : tie.Need-same-length-10
 same-length-10 c = search rules
@@ -102,7 +102,7 @@ returns-5 : tie.Need-returns-5
 returns-5 c =
     let ran = c.before.before.before.before.before.before.before in
     let a = ran.before.before.before.before.before.before.args in
-    outcome-other (modelIn a.m.now) a.budget a.heads.now a.triples.now _ _ a.room.now ran.decide.ensures _ c.before.d3.given.1 _ refl refl
+    outcome_other (model_in a.m.now) a.budget a.heads.now a.triples.now _ _ a.room.now ran.decide.ensures _ c.before.d3.given.1 _ refl refl
 
 pub trace-spec : {M : Type 1} → statement M
 trace-spec =

@@ -1,6 +1,6 @@
 -- `violation::put_by` meets its contract. Assumes nothing.
-use Rattle.text.proofs.Puts.{put-length}
-use Rattle.violation.proofs.Lines.{by-put}
+use Rattle.text.proofs.Puts.{put_length}
+use Rattle.violation.proofs.Lines.{by_put}
 use borrow.Author.Rules.{rules}
 use Rattle.violation.proofs.put_by.Statement.{statement}
 use Rattle.violation.proofs.put_by.Tie as tie
@@ -42,22 +42,22 @@ put-named-requires-3 : tie.Need-put-named-requires-3
 put-named-requires-3 c κs = search rules
 
 same_length : tie.Need-same-length
-same_length c = put-length c.before.before.put-named.ensures
+same_length c = put_length c.before.before.put_named.ensures
 
 returns : tie.Need-returns
-returns c = by-put _ c.before.before.before.before.before.before.enum_told.given.1 c.before.before.put-named.ensures
+returns c = by_put _ c.before.before.before.before.before.before.enum_told.given.1 c.before.before.put_named.ensures
 
 same-length-2 : tie.Need-same-length-2
-same-length-2 c = put-length c.before.before.put-named2.ensures
+same-length-2 c = put_length c.before.before.put-named2.ensures
 
 returns-2 : tie.Need-returns-2
-returns-2 c = by-put _ c.before.before.before.before.before.before.enum-told2.given.1 c.before.before.put-named2.ensures
+returns-2 c = by_put _ c.before.before.before.before.before.before.enum-told2.given.1 c.before.before.put-named2.ensures
 
 same-length-3 : tie.Need-same-length-3
-same-length-3 c = put-length c.before.before.put-named3.ensures
+same-length-3 c = put_length c.before.before.put-named3.ensures
 
 returns-3 : tie.Need-returns-3
-returns-3 c = by-put _ c.before.before.before.before.before.before.enum-told3.given.1 c.before.before.put-named3.ensures
+returns-3 c = by_put _ c.before.before.before.before.before.before.enum-told3.given.1 c.before.before.put-named3.ensures
 
 pub put-by-spec : {M : Type 1} → statement M
 put-by-spec =

@@ -1,8 +1,8 @@
 -- `violation::put_step` meets its contract. Assumes nothing.
 use borrow.Author.Rules.{rules}
-use Rattle.text.proofs.Puts.{put-length}
-use Rattle.lent.specs.Lending.{productIn}
-use Rattle.violation.proofs.Lines.{step-put}
+use Rattle.text.proofs.Puts.{put_length}
+use Rattle.lent.specs.Lending.{product_in}
+use Rattle.violation.proofs.Lines.{step_put}
 use Rattle.violation.proofs.put_step.Statement.{statement}
 use Rattle.violation.proofs.put_step.Tie as tie
 
@@ -19,14 +19,14 @@ put-by-requires : tie.Need-put-by-requires
 put-by-requires c κs = search rules
 
 same_length : tie.Need-same-length
-same_length c = put-length c.before.before.put-by.ensures
+same_length c = put_length c.before.before.put-by.ensures
 
 returns : tie.Need-returns
 returns c =
     let put = c.before.before in
     let read = put.before.before.before in
     let a = read.before.before.args in
-    step-put (productIn a.m.now) a.number a.step a.state read.rule-at.ensures put.put-by.ensures
+    step_put (product_in a.m.now) a.number a.step a.state read.rule_at.ensures put.put-by.ensures
 
 pub put-step-spec : {M : Type 1} → statement M
 put-step-spec =

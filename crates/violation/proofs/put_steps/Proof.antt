@@ -4,17 +4,17 @@ use Prim.Native.Nat.{◌-◌, ◌≤◌}
 use native.Mathlib.Omega.{arith}
 use borrow.Author.Rules.{rules}
 use Rattle.text.specs.Put.{Put}
-use Rattle.text.proofs.Puts.{none-put, as-put, put-length}
+use Rattle.text.proofs.Puts.{none_put, as_put, put_length}
 use Rattle.model.specs.declared.Shape.{Shape}
-use Rattle.lent.specs.Lending.{modelIn, productIn}
-use Rattle.violation.specs.Bytes.{stateAfter, stepLines}
-use Rattle.violation.proofs.Lines.{lines_none, more-put, state-more}
+use Rattle.lent.specs.Lending.{model_in, product_in}
+use Rattle.violation.specs.Bytes.{state_after, step_lines}
+use Rattle.violation.proofs.Lines.{lines_none, more_put, state_more}
 use Rattle.violation.proofs.put_steps.Statement.{statement}
 use Rattle.violation.proofs.put_steps.Tie as tie
 
 abbrev invariant-loop : tie.invariant-loop
 invariant-loop out₀ at m steps count q₀ next₀ i₀ out q next i =
-    (i ≤ count) × (q ≤ 255) × (q ≡ stateAfter (productIn m) steps i) × Put out₀ out at next (stepLines (productIn m) steps i)
+    (i ≤ count) × (q ≤ 255) × (q ≡ state_after (product_in m) steps i) × Put out₀ out at next (step_lines (product_in m) steps i)
 
 abbrev decreases-loop : tie.decreases-loop
 decreases-loop out₀ at m steps count q₀ next₀ i₀ out q next i = count - i
@@ -29,9 +29,9 @@ place-requires : tie.Need-place-requires invariant-loop decreases-loop
 place-requires c κs = search rules
 
 loop-holds : tie.Need-loop-init invariant-loop decreases-loop
-unfolding modelIn
+unfolding model_in
 loop-holds c =
-    (search rules, search rules, ap (λ (s : Shape). s.startstate) c.before.before.shape.ensures, as-put (lines_none _ _) (none-put _ _ c.place.ensures))
+    (search rules, search rules, ap (λ (s : Shape). s.startstate) c.before.before.shape.ensures, as_put (lines_none _ _) (none_put _ _ c.place.ensures))
 
 mul-state-after : tie.Need-overflow-mul-state-after invariant-loop decreases-loop
 mul-state-after c = search rules
@@ -75,12 +75,12 @@ loop-again c =
     let l = turn.loop in (
       search rules,
       asked.state-after.ensures.1,
-      state-more (productIn a.m.now) a.steps.now l.i l.invariant.2 asked.state-after.ensures.0,
-      more-put (productIn a.m.now) a.steps.now l.i l.invariant.2 asked.state-after.ensures.0 l.invariant.3 put.put_step.ensures,
+      state_more (product_in a.m.now) a.steps.now l.i l.invariant.2 asked.state-after.ensures.0,
+      more_put (product_in a.m.now) a.steps.now l.i l.invariant.2 asked.state-after.ensures.0 l.invariant.3 put.put_step.ensures,
     )
 
 same_length : tie.Need-same-length invariant-loop decreases-loop
-same_length c = put-length c.before.loop.invariant.3
+same_length c = put_length c.before.loop.invariant.3
 
 returns : tie.Need-returns invariant-loop decreases-loop
 returns c =

@@ -1,8 +1,8 @@
 -- `violation::put_violation` meets its contract. Assumes nothing.
 use mathlib.Core.Path.{◌∙◌}
-use Rattle.text.proofs.Puts.{put-length}
-use Rattle.lent.specs.Lending.{modelIn}
-use Rattle.violation.proofs.Lines.{shown-steps, violation-put}
+use Rattle.text.proofs.Puts.{put_length}
+use Rattle.lent.specs.Lending.{model_in}
+use Rattle.violation.proofs.Lines.{shown_steps, violation_put}
 use borrow.Author.Rules.{rules}
 use Rattle.violation.proofs.put_violation.Statement.{statement}
 use Rattle.violation.proofs.put_violation.Tie as tie
@@ -22,12 +22,12 @@ put-first-requires c κs = search rules
 put-steps-requires : tie.Need-put-steps-requires
 put-steps-requires c κs =
     let counted = c.before.before.before.before.before in
-    shown-steps _ _ counted.before.least.ensures counted.least2.ensures
+    shown_steps _ _ counted.before.least.ensures counted.least2.ensures
 
 same_length : tie.Need-same-length
 same_length c =
     let put = c.before.before in
-    put-length put.put-steps.ensures ∙ put-length put.before.before.before.before.put_first.ensures
+    put_length put.put-steps.ensures ∙ put_length put.before.before.before.before.put_first.ensures
 
 returns : tie.Need-returns
 returns c =
@@ -35,7 +35,7 @@ returns c =
     let first = put.before.before.before.before in
     let counted = first.before.before in
     let a = counted.before.before.before.before.args in
-    violation-put (modelIn a.m.now) a.whole a.rounds a.steps.now a.count counted.before.least.ensures counted.least2.ensures
+    violation_put (model_in a.m.now) a.whole a.rounds a.steps.now a.count counted.before.least.ensures counted.least2.ensures
     first.put_first.ensures put.put-steps.ensures
 
 pub put-violation-spec : {M : Type 1} → statement M

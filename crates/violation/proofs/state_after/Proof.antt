@@ -1,8 +1,8 @@
 -- `violation::state_after` meets its contract: the state that was answered, and q where none was. Assumes nothing.
 use mathlib.Core.Path.{◌∙◌}
 use borrow.Author.Rules.{rules}
-use Rattle.lent.specs.Lending.{productIn}
-use Rattle.violation.proofs.Lines.{asked, in-byte}
+use Rattle.lent.specs.Lending.{product_in}
+use Rattle.violation.proofs.Lines.{asked, in_byte}
 use Rattle.violation.proofs.state_after.Statement.{statement}
 use Rattle.violation.proofs.state_after.Tie as tie
 
@@ -25,14 +25,14 @@ returns : tie.Need-returns
 returns c =
     let answered = c.before.before in
     let a = answered.before.args in
-    (asked (productIn a.m.now) a.step a.q answered.next-state.ensures.0 c.enum_told.given.1, answered.before.requires)
+    (asked (product_in a.m.now) a.step a.q answered.next_state.ensures.0 c.enum_told.given.1, answered.before.requires)
 
 returns-2 : tie.Need-returns-2
 returns-2 c =
     let answered = c.before.before.before in
     let a = answered.before.args in (
-      asked (productIn a.m.now) a.step a.q answered.next-state.ensures.0 c.before.next.given.1,
-      in-byte answered.next-state.ensures.1 c.before.next.given.1,
+      asked (product_in a.m.now) a.step a.q answered.next_state.ensures.0 c.before.next.given.1,
+      in_byte answered.next_state.ensures.1 c.before.next.given.1,
     )
 
 pub state-after-spec : {M : Type 1} → statement M

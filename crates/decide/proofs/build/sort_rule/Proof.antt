@@ -1,5 +1,5 @@
 -- `decide::build::sort_rule` meets its contract. Assumes nothing.
-use Rattle.decide.proofs.Building.{put-exit, put-direct, put-call}
+use Rattle.decide.proofs.Building.{put_exit, put_direct, put_call}
 use borrow.Author.Rules.{rules}
 use Rattle.decide.proofs.build.sort_rule.Statement.{statement}
 use Rattle.decide.proofs.build.sort_rule.Tie as tie
@@ -11,7 +11,7 @@ add-requires : tie.Need-add-requires
 add-requires c κs = search rules
 
 returns : tie.Need-returns
-returns c = let row = c.before.before.before.before in let s = row.before in put-exit row.row_at.ensures s.requires.0 _ s.requires.1.0 c.before.before.if1.true c.add.ensures
+returns c = let row = c.before.before.before.before in let s = row.before in put_exit row.row_at.ensures s.requires.0 _ s.requires.1.0 c.before.before.if1.true c.add.ensures
 
 symbol-of-requires : tie.Need-symbol-of-requires
 symbol-of-requires c κs = search rules
@@ -27,7 +27,7 @@ put-requires-2 c κs = search rules
 
 returns-2 : tie.Need-returns-2
 returns-2 c = let head = c.before.before.before.before in let row = head.before.before.before.before.before in let s = row.before in
-    put-direct row.row_at.ensures s.requires.0 _ _ s.requires.1.1 head.before.before.before.if1.false head.before.symbol-of.ensures.0 head.put.ensures c.before.before.put2.ensures c.if2.true
+    put_direct row.row_at.ensures s.requires.0 _ _ s.requires.1.1 head.before.before.before.if1.false head.before.symbol_of_lem.ensures.0 head.put.ensures c.before.before.put2.ensures c.if2.true
 
 put-requires-3 : tie.Need-put-requires-3
 put-requires-3 c κs = search rules
@@ -40,7 +40,7 @@ put-requires-4 c κs = search rules
 
 returns-3 : tie.Need-returns-3
 returns-3 c = let top = c.before.before.before.before.before.before.before in let head = top.before.before in let row = head.before.before.before.before.before in let s = row.before in
-    put-call row.row_at.ensures s.requires.0 _ _ s.requires.1.1 head.before.before.before.if1.false head.before.symbol-of.ensures.0 head.put.ensures
+    put_call row.row_at.ensures s.requires.0 _ _ s.requires.1.1 head.before.before.before.if1.false head.before.symbol_of_lem.ensures.0 head.put.ensures
     top.put2.ensures c.before.before.before.before.before.if2.false c.before.before.before.put3.ensures c.put4.ensures
 
 pub sort-rule-spec : {M : Type 1} → statement M

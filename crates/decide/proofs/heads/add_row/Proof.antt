@@ -1,5 +1,5 @@
 -- `decide::heads::add_row` meets its contract. Assumes nothing.
-use Rattle.decide.proofs.Showing.{shows-one}
+use Rattle.decide.proofs.Showing.{shows_one}
 use borrow.Author.Rules.{rules}
 use Rattle.decide.proofs.heads.add_row.Statement.{statement}
 use Rattle.decide.proofs.heads.add_row.Tie as tie
@@ -20,7 +20,7 @@ shl-result : tie.Need-overflow-shl-result
 shl-result c = search rules
 
 returns : tie.Need-returns
-returns c = shows-one _ _ _ c.before.requires.0 c.before.requires.1
+returns c = shows_one _ _ _ c.before.requires.0 c.before.requires.1
 
 pub add-row-spec : {M : Type 1} → statement M
 add-row-spec =

@@ -1,5 +1,5 @@
 -- `decide::heads::land` meets its contract. Assumes nothing.
-use Rattle.decide.proofs.Showing.{land-is}
+use Rattle.decide.proofs.Showing.{land_is}
 use borrow.Author.Rules.{rules}
 use Rattle.decide.proofs.heads.land.Statement.{statement}
 use Rattle.decide.proofs.heads.land.Tie as tie
@@ -20,7 +20,7 @@ states-after-requires : tie.Need-states-after-requires
 states-after-requires c κs = search rules
 
 returns : tie.Need-returns
-returns c = land-is _ _ _ _ _ _ _ c.before.before.before.before.requires c.before.before.before.class-of.ensures.0 c.before.before.symbol-of.ensures.0 c.states-after.ensures
+returns c = land_is _ _ _ _ _ _ _ c.before.before.before.before.requires c.before.before.before.class_of_lem.ensures.0 c.before.before.symbol_of_lem.ensures.0 c.states_after_lem.ensures
 
 pub land-spec : {M : Type 1} → statement M
 land-spec =

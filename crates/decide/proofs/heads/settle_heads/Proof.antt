@@ -1,7 +1,7 @@
 -- `decide::heads::settle_heads` meets its contract. The loop's invariant: what is left to settle, with what is done, makes what was asked; the set that is left falls, as a number. Assumes nothing.
 use lib.Count.{trailing_le}
-use Rattle.bits.proofs.Lowest.{cleared-less}
-use Rattle.decide.proofs.Showing.{RowsLeft, rows-first, rows_next, rows_last, rows-room, row_low, row_fits}
+use Rattle.bits.proofs.Lowest.{cleared_less}
+use Rattle.decide.proofs.Showing.{RowsLeft, rows_first, rows_next, rows_last, rows_room, row_low, row_fits}
 use borrow.Author.Rules.{rules}
 use native.Mathlib.Omega.{arith}
 use Rattle.decide.proofs.heads.settle_heads.Statement.{statement}
@@ -14,7 +14,7 @@ abbrev decreases-loop : tie.decreases-loop
 decreases-loop size touched k nh₀ hd₀ heads₀ d₀ changed₀ nh hd heads d changed = d
 
 loop-holds : tie.Need-loop-init invariant-loop decreases-loop
-loop-holds c = rows-first (search rules) c.before.requires.0
+loop-holds c = rows_first (search rules) c.before.requires.0
 
 cast-g : tie.Need-overflow-cast-g invariant-loop decreases-loop
 cast-g c = omega (arith, trailing_le 64 c.before.loop.d)
@@ -31,7 +31,7 @@ element-copy-out-take-heads c = row_low (omega arith) c.before.loop.invariant
 take-heads-requires : tie.Need-take-heads-requires invariant-loop decreases-loop
 take-heads-requires c κs =
     let l = c.before.before.before.before.loop.invariant in
-    (rows-room (omega arith) l c.before.before.before.before.before.before.requires.1.0, row_fits (omega arith) l c.before.before.before.before.before.before.requires.1.1)
+    (rows_room (omega arith) l c.before.before.before.before.before.before.requires.1.0, row_fits (omega arith) l c.before.before.before.before.before.before.requires.1.1)
 
 mul-nh : tie.Need-overflow-mul-nh invariant-loop decreases-loop
 mul-nh c = let h = row_low (omega arith) c.before.before.before.before.before.before.before.loop.invariant in search rules
@@ -40,7 +40,7 @@ element-write-nh : tie.Need-element-write-nh invariant-loop decreases-loop
 element-write-nh c = row_low (omega arith) c.before.before.before.before.before.before.before.loop.invariant
 
 loop-less : tie.Need-loop-smaller invariant-loop decreases-loop
-loop-less c = cleared-less c.before.before.before.before.before.before.before.loop.d (omega arith)
+loop-less c = cleared_less c.before.before.before.before.before.before.before.loop.d (omega arith)
 
 loop-again : tie.Need-loop-preserved invariant-loop decreases-loop
 loop-again c = rows_next (omega arith) c.before.before.before.before.before.before.before.loop.invariant c.before.before.take-heads.ensures

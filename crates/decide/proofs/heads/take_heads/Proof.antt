@@ -1,5 +1,5 @@
 -- `decide::heads::take_heads` meets its contract. Assumes nothing.
-use Rattle.decide.proofs.Taking.{take_none, take_in, take-some}
+use Rattle.decide.proofs.Taking.{take_none, take_in, take_some}
 use borrow.Author.Rules.{rules}
 use Rattle.decide.proofs.heads.take_heads.Statement.{statement}
 use Rattle.decide.proofs.heads.take_heads.Tie as tie
@@ -23,7 +23,7 @@ returns-2 : tie.Need-returns-2
 returns-2 c =
     let gained = c.before.before.before.before.before in
     let s = gained.before.before.before in
-    take-some _ gained.gain.ensures s.requires.0 s.requires.1 c.before.before.before.before.if1.false c.before.before.stamp-heads.ensures
+    take_some _ gained.gain.ensures s.requires.0 s.requires.1 c.before.before.before.before.if1.false c.before.before.stamp-heads.ensures
 
 pub take-heads-spec : {M : Type 1} → statement M
 take-heads-spec =

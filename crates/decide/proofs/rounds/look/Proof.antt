@@ -1,7 +1,7 @@
 -- `decide::rounds::look` meets its contract. The loop's invariant: what is left to look at, with what was found, makes what was asked; the set that is left falls, as a number. Assumes nothing.
 use lib.Count.{trailing_le}
-use Rattle.bits.proofs.Lowest.{cleared-less}
-use Rattle.decide.proofs.Found.{Left, left-first, left-next, left-last, lowest-low}
+use Rattle.bits.proofs.Lowest.{cleared_less}
+use Rattle.decide.proofs.Found.{Left, left_first, left_next, left_last, lowest_low}
 use borrow.Author.Rules.{rules}
 use native.Mathlib.Omega.{arith}
 use Rattle.decide.proofs.rounds.look.Statement.{statement}
@@ -26,7 +26,7 @@ shr-r : tie.Need-overflow-shr-r invariant-loop decreases-loop
 shr-r c = search rules
 
 loop-holds : tie.Need-loop-init invariant-loop decreases-loop
-loop-holds c = left-first (search rules) c.before.requires.1.1
+loop-holds c = left_first (search rules) c.before.requires.1.1
 
 cast-s : tie.Need-overflow-cast-s invariant-loop decreases-loop
 cast-s c = omega (arith, trailing_le 64 c.before.loop.d)
@@ -35,19 +35,19 @@ sub-d : tie.Need-overflow-sub-d invariant-loop decreases-loop
 sub-d c = search rules
 
 mul-r-3 : tie.Need-overflow-mul-r-3 invariant-loop decreases-loop
-mul-r-3 c = let h = lowest-low (omega arith) c.before.loop.invariant in search rules
+mul-r-3 c = let h = lowest_low (omega arith) c.before.loop.invariant in search rules
 
 element-copy-out-r-2 : tie.Need-element-copy-out-r-2 invariant-loop decreases-loop
-element-copy-out-r-2 c = lowest-low (omega arith) c.before.loop.invariant
+element-copy-out-r-2 c = lowest_low (omega arith) c.before.loop.invariant
 
 loop-less : tie.Need-loop-smaller invariant-loop decreases-loop
-loop-less c = cleared-less c.before.before.loop.d (omega arith)
+loop-less c = cleared_less c.before.before.loop.d (omega arith)
 
 loop-again : tie.Need-loop-preserved invariant-loop decreases-loop
-loop-again c = left-next (omega arith) c.before.before.loop.invariant
+loop-again c = left_next (omega arith) c.before.before.loop.invariant
 
 returns : tie.Need-returns invariant-loop decreases-loop
-returns c = left-last (omega arith) c.before.loop.invariant
+returns c = left_last (omega arith) c.before.loop.invariant
 
 pub look_spec : {M : Type 1} → statement M
 look_spec =

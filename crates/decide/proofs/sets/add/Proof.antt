@@ -1,5 +1,5 @@
 -- `decide::sets::add` meets its contract. Assumes nothing.
-use Rattle.decide.proofs.Members.{with-is}
+use Rattle.decide.proofs.Members.{with_is}
 use borrow.Author.Rules.{rules}
 use Rattle.decide.proofs.sets.add.Statement.{statement}
 use Rattle.decide.proofs.sets.add.Tie as tie
@@ -20,7 +20,7 @@ element-write-set : tie.Need-element-write-set
 element-write-set c = search rules
 
 returns : tie.Need-returns
-returns c = with-is _ _ c.before.requires.0 c.before.requires.1
+returns c = with_is _ _ c.before.requires.0 c.before.requires.1
 
 pub add_spec : {M : Type 1} → statement M
 add_spec =

@@ -1,6 +1,6 @@
 -- `decide::sets::join` meets its contract. The loop's invariant: the first k words are joined; the words that are left fall. Assumes nothing.
 use Prim.Native.Nat.{◌-◌}
-use Rattle.decide.proofs.Members.{JoinedTo, joined-none, joined-more, joined-all}
+use Rattle.decide.proofs.Members.{JoinedTo, joined_none, joined_more, joined_all}
 use borrow.Author.Rules.{rules}
 use native.Mathlib.Omega.{arith}
 use Rattle.decide.proofs.sets.join.Statement.{statement}
@@ -13,7 +13,7 @@ abbrev decreases-loop : tie.decreases-loop
 decreases-loop set₀ sets s k₀ set k = 4 - k
 
 loop-holds : tie.Need-loop-init invariant-loop decreases-loop
-loop-holds c = joined-none c.requires.0
+loop-holds c = joined_none c.requires.0
 
 mul-set : tie.Need-overflow-mul-set invariant-loop decreases-loop
 mul-set c = search rules
@@ -46,10 +46,10 @@ loop-less : tie.Need-loop-smaller invariant-loop decreases-loop
 loop-less c = search rules
 
 loop-again : tie.Need-loop-preserved invariant-loop decreases-loop
-loop-again c = let at = c.before.before.before in joined-more (omega arith) at.loop.invariant
+loop-again c = let at = c.before.before.before in joined_more (omega arith) at.loop.invariant
 
 returns : tie.Need-returns invariant-loop decreases-loop
-returns c = joined-all (omega arith) c.before.loop.invariant
+returns c = joined_all (omega arith) c.before.loop.invariant
 
 pub join-spec : {M : Type 1} → statement M
 join-spec =

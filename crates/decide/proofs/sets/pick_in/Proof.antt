@@ -2,7 +2,7 @@
 use mathlib.Core.Path.{refl}
 use lib.Count.{trailing_le}
 use lib.ListN.{get_or}
-use Rattle.decide.proofs.Members.{picked-in, picked-empty}
+use Rattle.decide.proofs.Members.{picked_in, picked_empty}
 use native.Mathlib.Omega.{arith}
 use borrow.Author.Rules.{rules}
 use Rattle.decide.proofs.sets.pick_in.Statement.{statement}
@@ -15,7 +15,7 @@ element-copy-out-d : tie.Need-element-copy-out-d
 element-copy-out-d c = search rules
 
 returns : tie.Need-returns
-returns c = picked-empty _ c.if1.true
+returns c = picked_empty _ c.if1.true
 
 sub-set : tie.Need-overflow-sub-set
 sub-set c = search rules
@@ -36,7 +36,7 @@ add-result : tie.Need-overflow-add-result
 add-result c = let a = c.before.before.before.args in omega (arith, c.lowest.ensures.0, trailing_le 64 (get_or a.set.now a.k 0))
 
 returns-2 : tie.Need-returns-2
-returns-2 c = let s = c.before.before.before in picked-in _ _ _ s.requires.0 s.requires.1 (omega arith) refl c.lowest.ensures.1 c.lowest.ensures.0
+returns-2 c = let s = c.before.before.before in picked_in _ _ _ s.requires.0 s.requires.1 (omega arith) refl c.lowest.ensures.1 c.lowest.ensures.0
 
 pub pick-in-spec : {M : Type 1} → statement M
 pick-in-spec =

@@ -1,5 +1,5 @@
 -- `decide::triples::visit` meets its contract. Assumes nothing.
-use Rattle.decide.proofs.Gathered.{visit-none, visit-some}
+use Rattle.decide.proofs.Gathered.{visit_none, visit_some}
 use borrow.Author.Rules.{rules}
 use Rattle.decide.proofs.triples.visit.Statement.{statement}
 use Rattle.decide.proofs.triples.visit.Tie as tie
@@ -20,7 +20,7 @@ returns : tie.Need-returns
 returns c =
     let row = c.before.before.before in
     let s = row.before in
-    visit-none row.row_at.ensures s.args.e.now _ _ s.requires.1.0 s.requires.1.1 c.before.before.rest.ensures c.if1.true
+    visit_none row.row_at.ensures s.args.e.now _ _ s.requires.1.0 s.requires.1.1 c.before.before.rest.ensures c.if1.true
 
 mul-by : tie.Need-overflow-mul-by
 mul-by c = search rules
@@ -35,7 +35,7 @@ returns-2 : tie.Need-returns-2
 returns-2 c =
     let row = c.before.before.before.before.before in
     let s = row.before in
-    visit-some row.row_at.ensures s.args.e.now _ _ s.requires.1.0 s.requires.1.1 c.before.before.before.before.rest.ensures c.add.ensures
+    visit_some row.row_at.ensures s.args.e.now _ _ s.requires.1.0 s.requires.1.1 c.before.before.before.before.rest.ensures c.add.ensures
 
 pub visit-spec : {M : Type 1} → statement M
 visit-spec =

@@ -1,5 +1,5 @@
 -- `explain::ways::returned` meets its contract. Assumes nothing.
-use Rattle.explain.proofs.Given.{returns-it}
+use Rattle.explain.proofs.Given.{returns_it}
 use borrow.Author.Rules.{rules}
 use Rattle.explain.proofs.ways.returned.Statement.{statement}
 use Rattle.explain.proofs.ways.returned.Tie as tie
@@ -26,7 +26,7 @@ returns-3 : tie.Need-returns-3
 returns-3 c =
     let a = c.before.before.before.before.args in
     let (g0, (g1, (g2, _))) = c.before.before.rule.given.0 in
-    rw c.before.before.rule.given.1 (returns-it a.q a.g a.s.rule a.s.by a.s.free a.y g0 g1 g2 c.caused.ensures)
+    rw c.before.before.rule.given.1 (returns_it a.q a.g a.s.rule a.s.by a.s.free a.y g0 g1 g2 c.caused.ensures)
 
 pub returned-spec : {M : Type 1} → statement M
 returned-spec =

@@ -3,7 +3,7 @@ use borrow.Author.Rules.{rules}
 use Prim.Native.Nat.{suc}
 use Rattle.table.specs.Cells.{view}
 use Rattle.explain.specs.Search.{lower}
-use Rattle.explain.proofs.Tried.{low, high, lacks-before, lacks-first, lacks-second, has_all}
+use Rattle.explain.proofs.Tried.{low, high, lacks_before, lacks_first, lacks_second, has_all_lem}
 use Rattle.explain.proofs.why.is_lower.Statement.{statement}
 use Rattle.explain.proofs.why.is_lower.Tie as tie
 
@@ -26,7 +26,7 @@ returns-2 c =
     let a = told.before.before.before.before.args in
     let (w, _) = told.w.given.0 in
     let t = view a.size.symbols a.size.states a.heads.now a.triples.now in
-    rw told.w.given.1 (lacks-before (lower t (suc a.k)) w (high t a.k w.before one.rank-of.ensures c.if1.true))
+    rw told.w.given.1 (lacks_before (lower t (suc a.k)) w (high t a.k w.before one.rank_of.ensures c.if1.true))
 
 rank-of-requires-2 : tie.Need-rank-of-requires-2
 rank-of-requires-2 c κs = tt
@@ -39,8 +39,8 @@ returns-3 c =
     let a = told.before.before.before.before.args in
     let (w, _) = told.w.given.0 in
     let t = view a.size.symbols a.size.states a.heads.now a.triples.now in
-    let l1 = low t a.k w.before one.rank-of.ensures two.before.if1.false in
-    rw told.w.given.1 (lacks-first (lower t (suc a.k)) w l1 (high t a.k w.first two.rank-of2.ensures c.if2.true))
+    let l1 = low t a.k w.before one.rank_of.ensures two.before.if1.false in
+    rw told.w.given.1 (lacks_first (lower t (suc a.k)) w l1 (high t a.k w.first two.rank-of2.ensures c.if2.true))
 
 rank-of-requires-3 : tie.Need-rank-of-requires-3
 rank-of-requires-3 c κs = tt
@@ -54,9 +54,9 @@ returns-4 c =
     let a = told.before.before.before.before.args in
     let (w, _) = told.w.given.0 in
     let t = view a.size.symbols a.size.states a.heads.now a.triples.now in
-    let l1 = low t a.k w.before one.rank-of.ensures two.before.if1.false in
+    let l1 = low t a.k w.before one.rank_of.ensures two.before.if1.false in
     let l2 = low t a.k w.first two.rank-of2.ensures three.before.if2.false in
-    rw told.w.given.1 (lacks-second (lower t (suc a.k)) w l1 l2 (high t a.k w.second three.rank-of3.ensures c.if3.true))
+    rw told.w.given.1 (lacks_second (lower t (suc a.k)) w l1 l2 (high t a.k w.second three.rank-of3.ensures c.if3.true))
 
 returns-5 : tie.Need-returns-5
 returns-5 c =
@@ -67,9 +67,9 @@ returns-5 c =
     let a = told.before.before.before.before.args in
     let (w, _) = told.w.given.0 in
     let t = view a.size.symbols a.size.states a.heads.now a.triples.now in
-    let l1 = low t a.k w.before one.rank-of.ensures two.before.if1.false in
+    let l1 = low t a.k w.before one.rank_of.ensures two.before.if1.false in
     let l2 = low t a.k w.first two.rank-of2.ensures three.before.if2.false in
-    rw told.w.given.1 (has_all (lower t (suc a.k)) w l1 l2 (low t a.k w.second three.rank-of3.ensures c.if3.false))
+    rw told.w.given.1 (has_all_lem (lower t (suc a.k)) w l1 l2 (low t a.k w.second three.rank-of3.ensures c.if3.false))
 
 pub is-lower-spec : {M : Type 1} → statement M
 is-lower-spec =

@@ -16,7 +16,7 @@ returns : tie.Need-returns
 returns c = search rules
 
 returns-2 : tie.Need-returns-2
-returns-2 c = rw c.before.before.f.given.1 c.rank-at.ensures
+returns-2 c = rw c.before.before.f.given.1 c.rank_at.ensures
 
 pub rank-of-spec : {M : Type 1} → statement M
 rank-of-spec = tie.close (tie.spec enum_told enum-known-f rank-at-requires returns returns-2)

@@ -1,9 +1,9 @@
 -- `explain::why::tried` meets its contract. Assumes nothing.
 use Prim.Native.Nat.{suc}
 use Rattle.table.specs.Places.{fact_of}
-use Rattle.lent.specs.Lending.{productIn}
+use Rattle.lent.specs.Lending.{product_in}
 use Rattle.explain.specs.Search.{below}
-use Rattle.explain.proofs.Tried.{tried-stuck, tried-to}
+use Rattle.explain.proofs.Tried.{tried_stuck, tried_to}
 use Rattle.explain.proofs.why.tried.Statement.{statement}
 use Rattle.explain.proofs.why.tried.Tie as tie
 
@@ -36,7 +36,7 @@ returns c =
     let stepped = c.before.before in
     let a = stepped.before.before.before.before.args in
     let h = below a.ask.size.symbols a.ask.size.states a.heads.now a.triples.now (suc a.ask.k) in
-    tried-stuck (productIn a.m.now) h (fact_of a.ask.f) a.s.rule a.s.by a.s.free stepped.before.source.ensures stepped.next-state.ensures.0 c.enum_told.given.1
+    tried_stuck (product_in a.m.now) h (fact_of a.ask.f) a.s.rule a.s.by a.s.free stepped.before.source.ensures stepped.next_state.ensures.0 c.enum_told.given.1
 
 returns-2 : tie.Need-returns-2
 returns-2 c =
@@ -44,8 +44,8 @@ returns-2 c =
     let stepped = rule.before.before.before.before in
     let a = stepped.before.before.before.before.args in
     let h = below a.ask.size.symbols a.ask.size.states a.heads.now a.triples.now (suc a.ask.k) in
-    tried-to (productIn a.m.now) h (fact_of a.ask.f) a.s.rule a.s.by a.s.free stepped.before.source.ensures stepped.next-state.ensures.0
-    rule.before.before.next.given.1 rule.rule-at.ensures c.before.before.before.first.ensures c.before.before.second.ensures c.first-lower.ensures
+    tried_to (product_in a.m.now) h (fact_of a.ask.f) a.s.rule a.s.by a.s.free stepped.before.source.ensures stepped.next_state.ensures.0
+    rule.before.before.next.given.1 rule.rule_at.ensures c.before.before.before.first.ensures c.before.before.second.ensures c.first_lower.ensures
 
 pub tried-spec : {M : Type 1} → statement M
 tried-spec =

@@ -3,7 +3,7 @@ use mathlib.Core.Path.{sym, ◌∙◌}
 use borrow.Author.Rules.{rules}
 use borrow.Author.Tests.{lt-ltb, le-ltb}
 use Rattle.model.proofs.Counted.{passed, failed}
-use Rattle.lent.proofs.Parts.{valid-read}
+use Rattle.lent.proofs.Parts.{valid_read}
 use Rattle.lent.proofs.valid.is_valid.Statement.{statement}
 use Rattle.lent.proofs.valid.is_valid.Tie as tie
 
@@ -26,7 +26,7 @@ returns : tie.Need-returns
 returns c =
     let sized = c.before in
     let read = sized.before.before.before.before in
-    valid-read read.before.args.m.now read.shape.ensures
+    valid_read read.before.args.m.now read.shape.ensures
     (rw (failed sized.sizes-in.ensures c.if1.true))
 
 returns-2 : tie.Need-returns-2
@@ -34,7 +34,7 @@ returns-2 c =
     let one = c.before.before in
     let sized = one.before in
     let read = sized.before.before.before.before in
-    valid-read read.before.args.m.now read.shape.ensures
+    valid_read read.before.args.m.now read.shape.ensures
     (rw (passed sized.sizes-in.ensures one.if1.false, le-ltb _ _ c.if2.true))
 
 returns-3 : tie.Need-returns-3
@@ -43,7 +43,7 @@ returns-3 c =
     let one = two.before.before in
     let sized = one.before in
     let read = sized.before.before.before.before in
-    valid-read read.before.args.m.now read.shape.ensures
+    valid_read read.before.args.m.now read.shape.ensures
     (rw (passed sized.sizes-in.ensures one.if1.false, lt-ltb _ _ two.if2.false, le-ltb _ _ c.if3.true))
 
 rules-in-requires : tie.Need-rules-in-requires
@@ -60,8 +60,8 @@ returns-4 c =
     let one = two.before.before in
     let sized = one.before in
     let read = sized.before.before.before.before in
-    valid-read read.before.args.m.now read.shape.ensures
-    (rw (passed sized.sizes-in.ensures one.if1.false, lt-ltb _ _ two.if2.false, lt-ltb _ _ three.if3.false, sym ruled.rules-in.ensures ∙ c.before.if4.true) c.moves-in.ensures)
+    valid_read read.before.args.m.now read.shape.ensures
+    (rw (passed sized.sizes-in.ensures one.if1.false, lt-ltb _ _ two.if2.false, lt-ltb _ _ three.if3.false, sym ruled.rules_in_lem.ensures ∙ c.before.if4.true) c.moves_in.ensures)
 
 returns-5 : tie.Need-returns-5
 returns-5 c =
@@ -71,8 +71,8 @@ returns-5 c =
     let one = two.before.before in
     let sized = one.before in
     let read = sized.before.before.before.before in
-    valid-read read.before.args.m.now read.shape.ensures
-    (rw (passed sized.sizes-in.ensures one.if1.false, lt-ltb _ _ two.if2.false, lt-ltb _ _ three.if3.false, sym ruled.rules-in.ensures ∙ c.if4.false) c.if4.false)
+    valid_read read.before.args.m.now read.shape.ensures
+    (rw (passed sized.sizes-in.ensures one.if1.false, lt-ltb _ _ two.if2.false, lt-ltb _ _ three.if3.false, sym ruled.rules_in_lem.ensures ∙ c.if4.false) c.if4.false)
 
 pub is-valid-spec : {M : Type 1} → statement M
 is-valid-spec =

@@ -4,7 +4,7 @@ use mathlib.Core.Path.{◌≡◌, refl}
 use Prim.Native.Nat.{◌-◌, ◌≤◌}
 use borrow.Author.Rules.{rules}
 use Rattle.product.specs.Lists.{up_to, all}
-use Rattle.model.specs.Valid.{ruleRowIn}
+use Rattle.model.specs.Valid.{rule_row_in}
 use Rattle.model.proofs.Counted.{more, stop, done}
 use Rattle.lent.specs.Lending.{part}
 use Rattle.lent.proofs.Parts.{as_read}
@@ -12,7 +12,7 @@ use Rattle.lent.proofs.valid.rules_in.Statement.{statement}
 use Rattle.lent.proofs.valid.rules_in.Tie as tie
 
 abbrev invariant-loop : tie.invariant-loop
-invariant-loop m symbols count r₀ r = (r ≤ count) × (all (ruleRowIn symbols (part 0 1024 m)) (up_to r) ≡ true)
+invariant-loop m symbols count r₀ r = (r ≤ count) × (all (rule_row_in symbols (part 0 1024 m)) (up_to r) ≡ true)
 
 abbrev decreases-loop : tie.decreases-loop
 decreases-loop m symbols count r₀ r = count - r
@@ -30,7 +30,7 @@ returns : tie.Need-returns invariant-loop decreases-loop
 returns c =
     let turn = c.before.before.before.before in
     let a = turn.before.args in
-    stop (ruleRowIn a.symbols (part 0 1024 a.m.now)) turn.loop.r (as_read a.m.now a.symbols turn.loop.r c.before.before.row_at.ensures c.before.row_in.ensures) a.count (search rules) c.if1.true
+    stop (rule_row_in a.symbols (part 0 1024 a.m.now)) turn.loop.r (as_read a.m.now a.symbols turn.loop.r c.before.before.row_at.ensures c.before.row_in.ensures) a.count (search rules) c.if1.true
 
 add_r : tie.Need-overflow-add-r invariant-loop decreases-loop
 add_r c = search rules
@@ -42,13 +42,13 @@ loop-again : tie.Need-loop-preserved invariant-loop decreases-loop
 loop-again c =
     let turn = c.before.before.before.before in
     let a = turn.before.args in
-    (search rules, more (ruleRowIn a.symbols (part 0 1024 a.m.now)) turn.loop.r (as_read a.m.now a.symbols turn.loop.r c.before.before.row_at.ensures c.before.row_in.ensures) turn.loop.invariant.1 c.if1.false)
+    (search rules, more (rule_row_in a.symbols (part 0 1024 a.m.now)) turn.loop.r (as_read a.m.now a.symbols turn.loop.r c.before.before.row_at.ensures c.before.row_in.ensures) turn.loop.invariant.1 c.if1.false)
 
 returns-2 : tie.Need-returns-2 invariant-loop decreases-loop
 returns-2 c =
     let turn = c.before in
     let a = turn.before.args in
-    done (ruleRowIn a.symbols (part 0 1024 a.m.now)) turn.loop.invariant.0 (search rules) turn.loop.invariant.1
+    done (rule_row_in a.symbols (part 0 1024 a.m.now)) turn.loop.invariant.0 (search rules) turn.loop.invariant.1
 
 pub rules-in-spec : {M : Type 1} → statement M
 rules-in-spec =

@@ -2,8 +2,8 @@
 use mathlib.Core.Path.{◌≡◌, refl, ◌∙◌}
 use Prim.Native.Nat.{◌≤◌, ◌-◌}
 use lib.ListN.{length, length-set}
-use Rattle.numbers.proofs.Back.{decimal-length}
-use Rattle.printing.proofs.Digits.{Filled, none_filled, filled-room, filled_next, filled_put}
+use Rattle.numbers.proofs.Back.{decimal_length}
+use Rattle.printing.proofs.Digits.{Filled, none_filled, filled_room, filled_next, filled_put}
 use borrow.Author.Rules.{rules}
 use native.Mathlib.Omega.{arith}
 use Rattle.printing.proofs.lay.digits.Statement.{statement}
@@ -19,13 +19,13 @@ digit-count-requires : tie.Need-digit-count-requires invariant-loop decreases-lo
 digit-count-requires c κs = search rules
 
 add-end : tie.Need-overflow-add-end invariant-loop decreases-loop
-add-end c = omega (arith, (decimal-length c.before.before.args.n (omega arith)).1)
+add-end c = omega (arith, (decimal_length c.before.before.args.n (omega arith)).1)
 
 loop-holds : tie.Need-loop-init invariant-loop decreases-loop
 loop-holds c = (omega arith, refl, none_filled _ _ _ (omega arith) (omega arith))
 
 sub-i : tie.Need-overflow-sub-i invariant-loop decreases-loop
-sub-i c = filled-room c.before.loop.invariant.2 c.loop-test.true
+sub-i c = filled_room c.before.loop.invariant.2 c.loop-test.true
 
 cast-out : tie.Need-overflow-cast-out invariant-loop decreases-loop
 cast-out c = search rules
@@ -34,7 +34,7 @@ add-out : tie.Need-overflow-add-out invariant-loop decreases-loop
 add-out c = search rules
 
 slice-write-out : tie.Need-slice-write-out invariant-loop decreases-loop
-slice-write-out c = omega (arith, (decimal-length c.before.before.before.before.args.n (omega arith)).1, filled-room c.before.loop.invariant.2 c.loop-test.true)
+slice-write-out c = omega (arith, (decimal_length c.before.before.before.before.args.n (omega arith)).1, filled_room c.before.loop.invariant.2 c.loop-test.true)
 
 loop-less : tie.Need-loop-smaller invariant-loop decreases-loop
 loop-less c = search rules
@@ -55,7 +55,7 @@ same_length : tie.Need-same-length invariant-loop decreases-loop
 same_length c = search rules
 
 returns : tie.Need-returns invariant-loop decreases-loop
-returns c = filled_put c.before.loop.invariant.2 (omega arith) (omega (arith, (decimal-length c.before.before.before.before.args.n (omega arith)).1)) c.loop-test.false
+returns c = filled_put c.before.loop.invariant.2 (omega arith) (omega (arith, (decimal_length c.before.before.before.before.args.n (omega arith)).1)) c.loop-test.false
 
 pub digits-spec : {M : Type 1} → statement M
 digits-spec =

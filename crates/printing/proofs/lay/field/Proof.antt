@@ -1,8 +1,8 @@
 -- `printing::lay::field` meets its contract. Assumes nothing.
 use mathlib.Core.Path.{◌∙◌}
 use lib.ListN.{length-set}
-use Rattle.text.proofs.Puts.{put-length}
-use Rattle.printing.proofs.Digits.{short-field, long-field}
+use Rattle.text.proofs.Puts.{put_length}
+use Rattle.printing.proofs.Digits.{short_field, long_field}
 use native.Mathlib.Omega.{arith}
 use borrow.Author.Rules.{rules}
 use Rattle.printing.proofs.lay.field.Statement.{statement}
@@ -30,16 +30,16 @@ same_length : tie.Need-same-length
 same_length c = search rules
 
 returns : tie.Need-returns
-returns c = short-field _ _ _ c.before.before.requires c.if1.true
+returns c = short_field _ _ _ c.before.before.requires c.if1.true
 
 digits-requires : tie.Need-digits-requires
 digits-requires c κs = omega (arith, length-set c.before.before.before.args.out.now c.before.before.before.args.at 9)
 
 same-length-2 : tie.Need-same-length-2
-same-length-2 c = put-length c.before.before.digits.ensures ∙ length-set c.before.before.before.before.before.before.args.out.now c.before.before.before.before.before.before.args.at 9
+same-length-2 c = put_length c.before.before.digits.ensures ∙ length-set c.before.before.before.before.before.before.args.out.now c.before.before.before.before.before.before.args.at 9
 
 returns-2 : tie.Need-returns-2
-returns-2 c = long-field _ _ _ c.before.before.before.before.before.before.requires c.before.before.digits.ensures
+returns-2 c = long_field _ _ _ c.before.before.before.before.before.before.requires c.before.before.digits.ensures
 
 pub field-spec : {M : Type 1} → statement M
 field-spec =

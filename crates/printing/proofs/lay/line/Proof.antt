@@ -1,7 +1,7 @@
 -- `printing::lay::line` meets its contract. Assumes nothing.
 use mathlib.Core.Path.{◌∙◌}
-use Rattle.text.proofs.Puts.{put-length}
-use Rattle.printing.proofs.Digits.{line-room, line-laid}
+use Rattle.text.proofs.Puts.{put_length}
+use Rattle.printing.proofs.Digits.{line_room, line_laid}
 use native.Mathlib.Omega.{arith}
 use borrow.Author.Rules.{rules}
 use Rattle.printing.proofs.lay.line.Statement.{statement}
@@ -14,16 +14,16 @@ fields-requires : tie.Need-fields-requires
 fields-requires c κs = search rules
 
 slice-write-out : tie.Need-slice-write-out
-slice-write-out c = line-room c.before.before.before.before.before.before.before.before.before.before.before.args.numbers.now c.before.before.before.before.before.before.before.before.before.before.before.requires (λ i. omega (arith, c.before.before.before.before.before.before.before.before.shared-slice-known2.given i)) c.before.before.before.before.before.before.word.ensures c.before.before.fields.ensures
+slice-write-out c = line_room c.before.before.before.before.before.before.before.before.before.before.before.args.numbers.now c.before.before.before.before.before.before.before.before.before.before.before.requires (λ i. omega (arith, c.before.before.before.before.before.before.before.before.shared-slice-known2.given i)) c.before.before.before.before.before.before.word.ensures c.before.before.fields.ensures
 
 add-result : tie.Need-overflow-add-result
 add-result c = search rules
 
 same_length : tie.Need-same-length
-same_length c = put-length (line-laid c.before.before.before.before.before.before.before.before.before.before.before.args.numbers.now c.before.before.before.before.before.before.before.before.before.before.before.requires (λ i. omega (arith, c.before.before.before.before.before.before.before.before.shared-slice-known2.given i)) c.before.before.before.before.before.before.word.ensures c.before.before.fields.ensures)
+same_length c = put_length (line_laid c.before.before.before.before.before.before.before.before.before.before.before.args.numbers.now c.before.before.before.before.before.before.before.before.before.before.before.requires (λ i. omega (arith, c.before.before.before.before.before.before.before.before.shared-slice-known2.given i)) c.before.before.before.before.before.before.word.ensures c.before.before.fields.ensures)
 
 returns : tie.Need-returns
-returns c = line-laid c.before.before.before.before.before.before.before.before.before.before.before.args.numbers.now c.before.before.before.before.before.before.before.before.before.before.before.requires (λ i. omega (arith, c.before.before.before.before.before.before.before.before.shared-slice-known2.given i)) c.before.before.before.before.before.before.word.ensures c.before.before.fields.ensures
+returns c = line_laid c.before.before.before.before.before.before.before.before.before.before.before.args.numbers.now c.before.before.before.before.before.before.before.before.before.before.before.requires (λ i. omega (arith, c.before.before.before.before.before.before.before.before.shared-slice-known2.given i)) c.before.before.before.before.before.before.word.ensures c.before.before.fields.ensures
 
 pub line-spec : {M : Type 1} → statement M
 line-spec =

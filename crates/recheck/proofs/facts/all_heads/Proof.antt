@@ -4,7 +4,7 @@ use Prim.Native.Nat.{ℕ, ◌<◌, ◌≤◌, ◌-◌}
 use native.Mathlib.Omega.{arith}
 use lib.ListN.{length, get_or, length-set}
 use borrow.Author.Rules.{rules}
-use Rattle.recheck.proofs.Matrices.{Heads, heads-inside, heads-are, stored}
+use Rattle.recheck.proofs.Matrices.{Heads, heads_inside, heads_are, stored}
 use Rattle.recheck.proofs.facts.all_heads.Statement.{statement}
 use Rattle.recheck.proofs.facts.all_heads.Tie as tie
 
@@ -27,7 +27,7 @@ with-row-requires : tie.Need-with-row-requires invariant-loop decreases-loop
 with-row-requires c κs =
     let a = c.before.before.before.before.before.args in
     let p = c.before.before.before.before.before.requires in
-    heads-inside a.size.symbols a.size.states p.1.0 c.before.loop.g (omega arith) _ p.1.1
+    heads_inside a.size.symbols a.size.states p.1.0 c.before.loop.g (omega arith) _ p.1.1
 
 mul-hs : tie.Need-overflow-mul-hs invariant-loop decreases-loop
 mul-hs c = search rules
@@ -46,7 +46,7 @@ loop-again c =
     let a = c.before.before.before.before.before.before.args in
     let p = c.before.before.before.before.before.before.requires in
     let l = c.before.before.loop in
-    let is = heads-are a.size.symbols a.size.states a.heads.now l.g p.1.0 (omega arith) _ c.with_row.ensures in (
+    let is = heads_are a.size.symbols a.size.states a.heads.now l.g p.1.0 (omega arith) _ c.with_row.ensures in (
       omega arith,
       length-set l.hs l.g _ ∙ l.invariant.1,
       stored (λ d m. Heads a.size.symbols a.size.states a.heads.now d m) l.hs l.g _ (omega (arith, l.invariant.1, p.0)) l.invariant.2 is,

@@ -3,7 +3,7 @@ use Prim.Native.Nat.{◌≤◌, ◌-◌}
 use native.Mathlib.Nat.{mul-one, zero-add}
 use native.Mathlib.Omega.{arith}
 use borrow.Author.Rules.{rules}
-use Rattle.recheck.proofs.Matrices.{Rowed, rowed-none, rowed-more, rowed-all, rowed-alone}
+use Rattle.recheck.proofs.Matrices.{Rowed, rowed_none, rowed_more, rowed_all, rowed_alone}
 use Rattle.recheck.proofs.facts.row_of_eight.Statement.{statement}
 use Rattle.recheck.proofs.facts.row_of_eight.Tie as tie
 
@@ -16,7 +16,7 @@ decreases-loop cells at r₀ e₀ r e = 8 - e
 loop-holds : tie.Need-loop-init invariant-loop decreases-loop
 loop-holds c =
     let a = c.before.args in
-    (omega arith, rowed-none 0 a.cells.now a.at 1 0)
+    (omega arith, rowed_none 0 a.cells.now a.at 1 0)
 
 add-with-cell : tie.Need-overflow-add-with-cell invariant-loop decreases-loop
 add-with-cell c = search rules
@@ -40,13 +40,13 @@ loop-again : tie.Need-loop-preserved invariant-loop decreases-loop
 loop-again c =
     let a = c.before.before.before.before.before.args in
     let l = c.before.before.before.loop in
-    (omega arith, rowed-more 0 a.cells.now a.at 1 0 l.e l.r _ l.invariant.1 (rw (mul-one l.e, zero-add l.e) c.with_cell.ensures))
+    (omega arith, rowed_more 0 a.cells.now a.at 1 0 l.e l.r _ l.invariant.1 (rw (mul-one l.e, zero-add l.e) c.with_cell.ensures))
 
 returns : tie.Need-returns invariant-loop decreases-loop
 returns c =
     let a = c.before.before.before.args in
     let l = c.before.loop in
-    rowed-alone a.cells.now a.at 1 8 l.r (rowed-all 0 a.cells.now a.at 1 0 8 l.e l.r (omega arith) l.invariant.1)
+    rowed_alone a.cells.now a.at 1 8 l.r (rowed_all 0 a.cells.now a.at 1 0 8 l.e l.r (omega arith) l.invariant.1)
 
 pub row-of-eight-spec : {M : Type 1} → statement M
 row-of-eight-spec =

@@ -2,7 +2,7 @@
 use Prim.Native.Nat.{◌≤◌, ◌-◌}
 use native.Mathlib.Omega.{arith}
 use borrow.Author.Rules.{rules}
-use Rattle.recheck.proofs.Matrices.{small-place, Matrixed, triples-inside, matrixed-none, matrixed-more, triples-are}
+use Rattle.recheck.proofs.Matrices.{small_place, Matrixed, triples_inside, matrixed_none, matrixed_more, triples_are}
 use Rattle.recheck.proofs.facts.triples_of.Statement.{statement}
 use Rattle.recheck.proofs.facts.triples_of.Tie as tie
 
@@ -29,24 +29,24 @@ cast-symbols c = search rules
 loop-holds : tie.Need-loop-init invariant-loop decreases-loop
 loop-holds c =
     let a = c.before.before.before.before.before.args in
-    (omega arith, matrixed-none a.size.symbols a.size.states a.triples.now a.g)
+    (omega arith, matrixed_none a.size.symbols a.size.states a.triples.now a.g)
 
 mul-with-row : tie.Need-overflow-mul-with-row invariant-loop decreases-loop
 mul-with-row c =
     let a = c.before.before.before.before.before.before.before.args in
-    let h = small-place a.size.symbols a.size.states c.before.loop.q a.g (omega arith) c.before.before.before.before.before.before.before.requires.1.0 (omega arith) c.before.before.before.before.before.before.before.requires.0 in
+    let h = small_place a.size.symbols a.size.states c.before.loop.q a.g (omega arith) c.before.before.before.before.before.before.before.requires.1.0 (omega arith) c.before.before.before.before.before.before.before.requires.0 in
     search rules
 
 add-with-row : tie.Need-overflow-add-with-row invariant-loop decreases-loop
 add-with-row c =
     let a = c.before.before.before.before.before.before.before.args in
-    let h = small-place a.size.symbols a.size.states c.before.loop.q a.g (omega arith) c.before.before.before.before.before.before.before.requires.1.0 (omega arith) c.before.before.before.before.before.before.before.requires.0 in
+    let h = small_place a.size.symbols a.size.states c.before.loop.q a.g (omega arith) c.before.before.before.before.before.before.before.requires.1.0 (omega arith) c.before.before.before.before.before.before.before.requires.0 in
     search rules
 
 mul-with-row-2 : tie.Need-overflow-mul-with-row-2 invariant-loop decreases-loop
 mul-with-row-2 c =
     let a = c.before.before.before.before.before.before.before.args in
-    let h = small-place a.size.symbols a.size.states c.before.loop.q a.g (omega arith) c.before.before.before.before.before.before.before.requires.1.0 (omega arith) c.before.before.before.before.before.before.before.requires.0 in
+    let h = small_place a.size.symbols a.size.states c.before.loop.q a.g (omega arith) c.before.before.before.before.before.before.before.requires.1.0 (omega arith) c.before.before.before.before.before.before.before.requires.0 in
     search rules
 
 mul-with-row-3 : tie.Need-overflow-mul-with-row-3 invariant-loop decreases-loop
@@ -56,7 +56,7 @@ with-row-requires : tie.Need-with-row-requires invariant-loop decreases-loop
 with-row-requires c κs =
     let a = c.before.before.before.before.before.before.before.args in
     let p = c.before.before.before.before.before.before.before.requires in
-    triples-inside a.size.symbols a.size.states p.1.0 a.g p.0 _ p.1.1 c.before.loop.q (omega arith)
+    triples_inside a.size.symbols a.size.states p.1.0 a.g p.0 _ p.1.1 c.before.loop.q (omega arith)
 
 add-q : tie.Need-overflow-add-q invariant-loop decreases-loop
 add-q c = search rules
@@ -68,14 +68,14 @@ loop-again : tie.Need-loop-preserved invariant-loop decreases-loop
 loop-again c =
     let a = c.before.before.before.before.before.before.before.before.args in
     let l = c.before.before.loop in
-    (omega arith, matrixed-more a.size.symbols a.size.states a.triples.now a.g l.q l.m _ l.invariant.1 c.with_row.ensures)
+    (omega arith, matrixed_more a.size.symbols a.size.states a.triples.now a.g l.q l.m _ l.invariant.1 c.with_row.ensures)
 
 returns-2 : tie.Need-returns-2 invariant-loop decreases-loop
 returns-2 c =
     let a = c.before.before.before.before.before.before.before.args in
     let p = c.before.before.before.before.before.before.before.requires in
     let l = c.before.loop in
-    triples-are a.size.symbols a.size.states a.triples.now a.g p.1.0 p.0 l.q l.m (omega arith) l.invariant.1
+    triples_are a.size.symbols a.size.states a.triples.now a.g p.1.0 p.0 l.q l.m (omega arith) l.invariant.1
 
 pub triples-of-spec : {M : Type 1} → statement M
 triples-of-spec =

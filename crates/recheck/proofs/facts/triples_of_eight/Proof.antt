@@ -4,8 +4,8 @@ use Prim.Native.Nat.{◌*◌, ◌≤◌, ◌-◌}
 use native.Mathlib.Omega.{arith}
 use lib.ListN.{length}
 use borrow.Author.Rules.{rules}
-use Rattle.table.specs.Cells.{tripleCount}
-use Rattle.recheck.proofs.Matrices.{small-place, Matrixed, Triples, triples-inside, rowed-moved, matrixed-none, matrixed-more, triples-are}
+use Rattle.table.specs.Cells.{triple_count}
+use Rattle.recheck.proofs.Matrices.{small_place, Matrixed, Triples, triples_inside, rowed_moved, matrixed_none, matrixed_more, triples_are}
 use Rattle.recheck.proofs.facts.triples_of_eight.Statement.{statement}
 use Rattle.recheck.proofs.facts.triples_of_eight.Tie as tie
 
@@ -21,32 +21,32 @@ cast-symbols c = search rules
 loop-holds : tie.Need-loop-init invariant-loop decreases-loop
 loop-holds c =
     let a = c.before.before.args in
-    (omega arith, matrixed-none a.size.symbols 8 a.triples.now a.g)
+    (omega arith, matrixed_none a.size.symbols 8 a.triples.now a.g)
 
 mul-row-of-eight : tie.Need-overflow-mul-row-of-eight invariant-loop decreases-loop
 mul-row-of-eight c =
     let a = c.before.before.before.before.args in
-    let h = small-place a.size.symbols 8 c.before.loop.q a.g (omega arith) (omega arith) (omega arith) c.before.before.before.before.requires.0 in
+    let h = small_place a.size.symbols 8 c.before.loop.q a.g (omega arith) (omega arith) (omega arith) c.before.before.before.before.requires.0 in
     search rules
 
 add-row-of-eight : tie.Need-overflow-add-row-of-eight invariant-loop decreases-loop
 add-row-of-eight c =
     let a = c.before.before.before.before.args in
-    let h = small-place a.size.symbols 8 c.before.loop.q a.g (omega arith) (omega arith) (omega arith) c.before.before.before.before.requires.0 in
+    let h = small_place a.size.symbols 8 c.before.loop.q a.g (omega arith) (omega arith) (omega arith) c.before.before.before.before.requires.0 in
     search rules
 
 mul-row-of-eight-2 : tie.Need-overflow-mul-row-of-eight-2 invariant-loop decreases-loop
 mul-row-of-eight-2 c =
     let a = c.before.before.before.before.args in
-    let h = small-place a.size.symbols 8 c.before.loop.q a.g (omega arith) (omega arith) (omega arith) c.before.before.before.before.requires.0 in
+    let h = small_place a.size.symbols 8 c.before.loop.q a.g (omega arith) (omega arith) (omega arith) c.before.before.before.before.requires.0 in
     search rules
 
 row-of-eight-requires : tie.Need-row-of-eight-requires invariant-loop decreases-loop
 row-of-eight-requires c κs =
     let a = c.before.before.before.before.args in
     let p = c.before.before.before.before.requires in
-    let long = subst (λ Q. tripleCount a.size.symbols Q ≤ length a.triples.now) p.1.0 p.1.1 in
-    let h = (triples-inside a.size.symbols 8 (omega arith) a.g p.0 _ long c.before.loop.q (omega arith)).inside 7 (omega arith) in
+    let long = subst (λ Q. triple_count a.size.symbols Q ≤ length a.triples.now) p.1.0 p.1.1 in
+    let h = (triples_inside a.size.symbols 8 (omega arith) a.g p.0 _ long c.before.loop.q (omega arith)).inside 7 (omega arith) in
     omega arith
 
 mul-m : tie.Need-overflow-mul-m invariant-loop decreases-loop
@@ -65,7 +65,7 @@ loop-again : tie.Need-loop-preserved invariant-loop decreases-loop
 loop-again c =
     let a = c.before.before.before.before.before.args in
     let l = c.before.before.loop in
-    (omega arith, matrixed-more a.size.symbols 8 a.triples.now a.g l.q l.m _ l.invariant.1 (rowed-moved a.triples.now _ 1 8 l.m (l.q * 8) _ (omega arith) c.row-of-eight.ensures))
+    (omega arith, matrixed_more a.size.symbols 8 a.triples.now a.g l.q l.m _ l.invariant.1 (rowed_moved a.triples.now _ 1 8 l.m (l.q * 8) _ (omega arith) c.row-of-eight.ensures))
 
 returns : tie.Need-returns invariant-loop decreases-loop
 returns c =
@@ -73,7 +73,7 @@ returns c =
     let p = c.before.before.before.before.requires in
     let l = c.before.loop in
     subst⁻¹ (λ Q. Triples a.size.symbols Q a.triples.now a.g l.m) p.1.0
-    (triples-are a.size.symbols 8 a.triples.now a.g (omega arith) p.0 l.q l.m (omega arith) l.invariant.1)
+    (triples_are a.size.symbols 8 a.triples.now a.g (omega arith) p.0 l.q l.m (omega arith) l.invariant.1)
 
 pub triples-of-eight-spec : {M : Type 1} → statement M
 triples-of-eight-spec =

@@ -2,7 +2,7 @@
 use Prim.Native.Nat.{◌≤◌, ◌-◌}
 use native.Mathlib.Omega.{arith}
 use borrow.Author.Rules.{rules}
-use Rattle.recheck.proofs.Matrices.{Rowed, rowed-none, rowed-more, rowed-all}
+use Rattle.recheck.proofs.Matrices.{Rowed, rowed_none, rowed_more, rowed_all}
 use Rattle.recheck.proofs.facts.with_row.Statement.{statement}
 use Rattle.recheck.proofs.facts.with_row.Tie as tie
 
@@ -15,7 +15,7 @@ decreases-loop m cells at apart k n r₀ e₀ r e = n - e
 loop-holds : tie.Need-loop-init invariant-loop decreases-loop
 loop-holds c =
     let a = c.before.args in
-    (omega arith, rowed-none a.m a.cells.now a.at a.apart a.k)
+    (omega arith, rowed_none a.m a.cells.now a.at a.apart a.k)
 
 mul-with-cell : tie.Need-overflow-mul-with-cell invariant-loop decreases-loop
 mul-with-cell c =
@@ -55,13 +55,13 @@ loop-again : tie.Need-loop-preserved invariant-loop decreases-loop
 loop-again c =
     let a = c.before.before.before.before.before.args in
     let l = c.before.before.before.loop in
-    (omega arith, rowed-more a.m a.cells.now a.at a.apart a.k l.e l.r _ l.invariant.1 c.with_cell.ensures)
+    (omega arith, rowed_more a.m a.cells.now a.at a.apart a.k l.e l.r _ l.invariant.1 c.with_cell.ensures)
 
 returns : tie.Need-returns invariant-loop decreases-loop
 returns c =
     let a = c.before.before.before.args in
     let l = c.before.loop in
-    rowed-all a.m a.cells.now a.at a.apart a.k a.n l.e l.r (omega arith) l.invariant.1
+    rowed_all a.m a.cells.now a.at a.apart a.k a.n l.e l.r (omega arith) l.invariant.1
 
 pub with-row-spec : {M : Type 1} → statement M
 with-row-spec =

@@ -3,14 +3,14 @@ use Prim.Native.Nat.{ℕ, ◌<◌, ◌≤◌, ◌-◌}
 use native.Mathlib.Omega.{arith}
 use lib.Dec.{T}
 use borrow.Author.Rules.{rules}
-use Rattle.lent.specs.Lending.{modelIn}
-use Rattle.recheck.specs.Tests.{closedBy}
-use Rattle.recheck.proofs.Rules.{opens-here, closed-more, all_closed}
+use Rattle.lent.specs.Lending.{model_in}
+use Rattle.recheck.specs.Tests.{closed_by}
+use Rattle.recheck.proofs.Rules.{opens_here, closed_more, all_closed}
 use Rattle.recheck.proofs.search.open_rule.Statement.{statement}
 use Rattle.recheck.proofs.search.open_rule.Tie as tie
 
 abbrev invariant-loop : tie.invariant-loop
-invariant-loop m tg ts hs rules r₀ r = (r ≤ rules) × ((j : ℕ) → j < r → T (closedBy (modelIn m) tg ts hs j))
+invariant-loop m tg ts hs rules r₀ r = (r ≤ rules) × ((j : ℕ) → j < r → T (closed_by (model_in m) tg ts hs j))
 
 abbrev decreases-loop : tie.decreases-loop
 decreases-loop m tg ts hs rules r₀ r = rules - r
@@ -37,7 +37,7 @@ returns : tie.Need-returns invariant-loop decreases-loop
 returns c =
     let a = c.before.before.before.before.before.before.before.args in
     let l = c.before.before.before.before.before.before.loop in
-    opens-here (modelIn a.m.now) a.tg.now a.ts.now a.hs.now l.r c.before.before.before.before.class-of.ensures.0 c.before.before.rule-at.ensures c.before.rule-closed.ensures a.rules (omega arith) l.invariant.1 c.if1.true
+    opens_here (model_in a.m.now) a.tg.now a.ts.now a.hs.now l.r c.before.before.before.before.class_of_lem.ensures.0 c.before.before.rule_at.ensures c.before.rule_closed_lem.ensures a.rules (omega arith) l.invariant.1 c.if1.true
 
 add_r : tie.Need-overflow-add-r invariant-loop decreases-loop
 add_r c = search rules
@@ -49,13 +49,13 @@ loop-again : tie.Need-loop-preserved invariant-loop decreases-loop
 loop-again c =
     let a = c.before.before.before.before.before.before.before.args in
     let l = c.before.before.before.before.before.before.loop in
-    (omega arith, closed-more (modelIn a.m.now) a.tg.now a.ts.now a.hs.now l.r c.before.before.before.before.class-of.ensures.0 c.before.before.rule-at.ensures c.before.rule-closed.ensures l.invariant.1 c.if1.false)
+    (omega arith, closed_more (model_in a.m.now) a.tg.now a.ts.now a.hs.now l.r c.before.before.before.before.class_of_lem.ensures.0 c.before.before.rule_at.ensures c.before.rule_closed_lem.ensures l.invariant.1 c.if1.false)
 
 returns-2 : tie.Need-returns-2 invariant-loop decreases-loop
 returns-2 c =
     let a = c.before.before.args in
     let l = c.before.loop in
-    all_closed (closedBy (modelIn a.m.now) a.tg.now a.ts.now a.hs.now) a.rules l.r l.invariant.0 (omega arith) l.invariant.1
+    all_closed (closed_by (model_in a.m.now) a.tg.now a.ts.now a.hs.now) a.rules l.r l.invariant.0 (omega arith) l.invariant.1
 
 pub open-rule-spec : {M : Type 1} → statement M
 open-rule-spec =

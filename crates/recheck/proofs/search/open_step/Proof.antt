@@ -2,8 +2,8 @@
 use mathlib.Core.Path.{ap}
 use borrow.Author.Rules.{rules}
 use Rattle.model.specs.declared.Shape.{Shape}
-use Rattle.lent.specs.Lending.{modelIn}
-use Rattle.recheck.proofs.Rules.{fits, nowhere-at, first-at}
+use Rattle.lent.specs.Lending.{model_in}
+use Rattle.recheck.proofs.Rules.{fits, nowhere_at, first_at}
 use Rattle.recheck.proofs.search.open_step.Statement.{statement}
 use Rattle.recheck.proofs.search.open_step.Tie as tie
 
@@ -29,7 +29,7 @@ open-rule-requires : tie.Need-open-rule-requires
 open-rule-requires c κs = search rules
 
 returns : tie.Need-returns
-unfolding modelIn
+unfolding model_in
 returns c =
     let ruled = c.before.before in
     let seen = ruled.before.before.before.before in
@@ -37,15 +37,15 @@ returns c =
     let read = built.before in
     let start = read.before.before.before in
     let a = start.args in
-    nowhere-at (modelIn a.m.now) start.requires.fits.valid-model a.heads.now a.triples.now a.size start.requires.size_is _ _
-    (seen.before.all-triples.ensures, seen.all-heads.ensures) _ _ (ap (λ (s : Shape). s.rules) read.shape.ensures) built.class-steps.ensures
+    nowhere_at (model_in a.m.now) start.requires.fits.valid_model a.heads.now a.triples.now a.size start.requires.size_is _ _
+    (seen.before.all-triples.ensures, seen.all-heads.ensures) _ _ (ap (λ (s : Shape). s.rules) read.shape.ensures) built.class_steps_lem.ensures
     ruled.open-rule.ensures c.if1.true
 
 open-move-requires : tie.Need-open-move-requires
 open-move-requires c κs = search rules
 
 returns-2 : tie.Need-returns-2
-unfolding modelIn
+unfolding model_in
 returns-2 c =
     let ruled = c.before.before.before in
     let seen = ruled.before.before.before.before in
@@ -53,8 +53,8 @@ returns-2 c =
     let read = built.before in
     let start = read.before.before.before in
     let a = start.args in
-    first-at (modelIn a.m.now) start.requires.fits.valid-model a.heads.now a.triples.now a.size start.requires.size_is _ _
-    (seen.before.all-triples.ensures, seen.all-heads.ensures) _ _ (ap (λ (s : Shape). s.rules) read.shape.ensures) built.class-steps.ensures
+    first_at (model_in a.m.now) start.requires.fits.valid_model a.heads.now a.triples.now a.size start.requires.size_is _ _
+    (seen.before.all-triples.ensures, seen.all-heads.ensures) _ _ (ap (λ (s : Shape). s.rules) read.shape.ensures) built.class_steps_lem.ensures
     ruled.open-rule.ensures c.before.if1.false _ (ap (λ (s : Shape). s.moves) read.shape.ensures) c.open-move.ensures
 
 pub open-step-spec : {M : Type 1} → statement M

@@ -4,16 +4,16 @@ use mathlib.Core.Bool.{true}
 use mathlib.Core.Path.{◌≡◌, refl}
 use Prim.Native.Nat.{◌-◌, ◌≤◌}
 use Rattle.product.specs.Lists.{up_to, all}
-use Rattle.lent.specs.Lending.{productIn}
+use Rattle.lent.specs.Lending.{product_in}
 use Rattle.model.proofs.Counted.{more, stop, done}
 use Rattle.kept.specs.Kept.{in_table}
 use Rattle.kept.proofs.Ways.{kept_read}
-use Rattle.recheck.specs.Tests.{step, stepKept}
+use Rattle.recheck.specs.Tests.{step, step_kept}
 use Rattle.recheck.proofs.search.steps_kept.Statement.{statement}
 use Rattle.recheck.proofs.search.steps_kept.Tie as tie
 
 abbrev invariant-loop : tie.invariant-loop
-invariant-loop m heads triples size r v rule q₀ q = (q ≤ size.states) × (all (stepKept (productIn m) size.states (in_table size heads triples) r v) (up_to q) ≡ true)
+invariant-loop m heads triples size r v rule q₀ q = (q ≤ size.states) × (all (step_kept (product_in m) size.states (in_table size heads triples) r v) (up_to q) ≡ true)
 
 abbrev decreases-loop : tie.decreases-loop
 decreases-loop m heads triples size r v rule q₀ q = size.states - q
@@ -37,11 +37,11 @@ returns : tie.Need-returns invariant-loop decreases-loop
 returns c =
     let a = c.before.before.before.before.before.before.before.before.before.args in
     let t = in_table a.size a.heads.now a.triples.now in
-    let k = productIn a.m.now in
-    let p = stepKept k a.size.states t a.r a.v in
+    let k = product_in a.m.now in
+    let p = step_kept k a.size.states t a.r a.v in
     let w = c.before.before.before.before.before.loop in
-    let rule = c.before.before.before.before.before.before.rule-at in
-    let kept = kept_read a.size.states t w.q (k.rule a.r) (k.next (step a.r a.v) w.q) rule.ensures c.before.before.next-state.ensures.0 c.before.next-kept.ensures in
+    let rule = c.before.before.before.before.before.before.rule_at in
+    let kept = kept_read a.size.states t w.q (k.rule a.r) (k.next (step a.r a.v) w.q) rule.ensures c.before.before.next_state.ensures.0 c.before.next_kept_lem.ensures in
     stop p w.q kept a.size.states (search rules) c.if2.true
 
 add-q : tie.Need-overflow-add-q invariant-loop decreases-loop
@@ -54,17 +54,17 @@ loop-again : tie.Need-loop-preserved invariant-loop decreases-loop
 loop-again c =
     let a = c.before.before.before.before.before.before.before.before.before.args in
     let t = in_table a.size a.heads.now a.triples.now in
-    let k = productIn a.m.now in
-    let p = stepKept k a.size.states t a.r a.v in
+    let k = product_in a.m.now in
+    let p = step_kept k a.size.states t a.r a.v in
     let w = c.before.before.before.before.before.loop in
-    (search rules, more p w.q (kept_read a.size.states t w.q (k.rule a.r) (k.next (step a.r a.v) w.q) c.before.before.before.before.before.before.rule-at.ensures c.before.before.next-state.ensures.0 c.before.next-kept.ensures) w.invariant.1 c.if2.false)
+    (search rules, more p w.q (kept_read a.size.states t w.q (k.rule a.r) (k.next (step a.r a.v) w.q) c.before.before.before.before.before.before.rule_at.ensures c.before.before.next_state.ensures.0 c.before.next_kept_lem.ensures) w.invariant.1 c.if2.false)
 
 returns-2 : tie.Need-returns-2 invariant-loop decreases-loop
 returns-2 c =
     let a = c.before.before.before.before.before.before.args in
     let t = in_table a.size a.heads.now a.triples.now in
-    let k = productIn a.m.now in
-    let p = stepKept k a.size.states t a.r a.v in
+    let k = product_in a.m.now in
+    let p = step_kept k a.size.states t a.r a.v in
     let w = c.before.before.loop in
     done p w.invariant.0 (search rules) w.invariant.1
 
