@@ -3,7 +3,7 @@ use mathlib.Core.Bool.{Bool, true, false, not, ◌&&◌}
 use mathlib.Core.List.{List}
 use mathlib.Core.Logic.{◌↔◌}
 use mathlib.Core.Path.{◌≡◌, refl, subst}
-use Prim.Native.Nat.{ℕ, suc}
+use Prim.Native.Nat.{zero, ℕ, suc}
 use native.Mathlib.Omega.{arith}
 use lib.Dec.{T, T_not, not_T}
 use Rattle.product.specs.Lists.{all, find, ◌∈◌}
@@ -88,11 +88,14 @@ module _ (p : Product) (t : Fact → Bool) where
       of : (a b : Bool) → T (a && b && all (closed_at p t) (pairs p))
           → elim a as (λ _. Checked) [ false ↦ fails 1 0 0 | true ↦ elim b [ false ↦ fails 2 0 0 | true ↦ open_at (find (λ s. not (closed_at p t s)) (pairs p)) ] ] ≡ passes
       of true true h = rw (find_none (closed_at p t) (pairs p) h)
+      of false b h = elim h [ ]
+      of true false h = elim h [ ]
 
 module _ (p : Product) (R : InRange p) where
   -- the table of a safe verdict is accepted
   pub safe_accepted : (n : ℕ) → IsVerdict p (safe n) → T (accepts p (held p n))
   unfolding accepts violated adds
+  safe_accepted zero (_, (_, t)) = elim t [ ]
   safe_accepted (suc n) (_, (h, k)) =
       both (held p (suc n) (first p) && clean p (held p (suc n))) (all (closed_at p (held p (suc n))) (pairs p))
       (both (held p (suc n) (first p)) (clean p (held p (suc n))) (held_start p (suc n)) (not_any (λ f. violating p f && held p (suc n) f) (cells p) h))

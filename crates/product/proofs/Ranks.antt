@@ -27,10 +27,12 @@ module _ (p : Product) where
     where
       go : (b : Bool) → T b → Rank p f (cond b zero absent)
       go true _ = (t, λ k _. zero-le)
+      go false x'' = elim x'' [ ]
   ranks_rank (suc n) f t = go (ranks_rank n f) (held p n f) refl
     where
       new : (b : Bool) → T b → held p n f ≡ false → Rank p f (cond b (suc n) absent)
       new true _ e = new_rank n f e t
+      new false x3 e = elim x3 [ ]
 
       go : (T (held p n f) → Rank p f (ranks p n f)) → (b : Bool) → held p n f ≡ b → Rank p f (cond b (ranks p n f) (cond (held p (suc n) f) (suc n) absent))
       go ih true e = ih (rw e tt)

@@ -37,6 +37,7 @@ module _ (p : Product) where
     where
       go : (b : Bool) → T b → elim b as (λ _. Replayed) [ true ↦ replays | false ↦ stops (suc k) ] ≡ replays
       go true t = refl
+      go false t = elim t [ ]
   run_from k c (s ∷ ss) d (b, e, run) t =
       subst⁻¹ (λ o. elim o as (λ _. Replayed) [ none ↦ stops (suc k) | some d ↦ replay_from p (suc k) d ss ] ≡ replays) e (run_from (suc k) b ss d run t)
 

@@ -42,6 +42,7 @@ module _ (p : Product) (R : InRange p) where
 
   pub safe_right : (n : ℕ) → IsVerdict p (safe n) → (ss : List Step) (c : State) → Reaches p ss c → ⊥
   unfolding adds
+  safe_right zero (_, (_, t)) = elim t [ ]
   safe_right (suc n) (_, (h, k)) =
       no_run (In (held p n)) (quiet_closed p (same (first p)) R (first_alone p R) n k) (held_start p n) λ f _ t v.
       T_not (violated p (suc n)) h (violated_by (suc n) f v (grown_later p (same (first p)) n f t))
