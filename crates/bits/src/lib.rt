@@ -1,4 +1,6 @@
 // Matrices of bits: a relation between eight states in one number of 64 bits, a set of states in its first row.
+#![tactic(auto)]
+
 ghost use Rattle.std.specs.Prelude.{◌≡◌, ℕ, ◌<◌};
 ghost use Rattle.bits.specs.Bit.{bit, word};
 ghost use Rattle.bits.specs.Matrix.{entry, some, multiplied, image};

@@ -31,7 +31,7 @@ const REPLAYED: usize = 9;
 const REPLAY_REFUSED: usize = 10;
 
 // A word and two numbers.
-#[derive(Drop)]
+#[derive(Clone, Copy)]
 pub struct Said(pub usize, pub u64, pub u64);
 
 pub fn of_reading(r: Reading) -> Said {

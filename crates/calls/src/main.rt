@@ -2,6 +2,8 @@
 // the lent cells afterwards, also past the table. Standard input is a row of texts, each behind a line of numbers: its length alone where it
 // is only read; else also the budget, the room and which array is too short (1 heads, 2 triples, 3 the replay's stack). tests/expected.py
 // makes it, and says by the second program what is to be written.
+#![tactic(auto)]
+
 ghost use Rattle.std.specs.Prelude.{◌≤◌};
 
 use answers::{Said, TRACE_REFUSED};

@@ -6,7 +6,7 @@ use model::{Rule, Shape};
 use reader::Reading;
 
 // A rule's kind, 0 to 2, its symbol, and the symbols that it pushes, or 0.
-#[derive(Drop)]
+#[derive(Clone, Copy)]
 struct Row(u64, u64, u64, u64);
 
 fn sizes(s: Shape) {

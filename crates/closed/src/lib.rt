@@ -1,5 +1,7 @@
 // Whether a rule is closed: the consequences of its steps are present. Steps, triples and heads are matrices: those of the steps from state to
 // state, and for each of 32 symbols its triples and the row of its heads.
+#![tactic(auto)]
+
 ghost use Rattle.std.specs.Prelude.{◌≡◌};
 ghost use Rattle.product.specs.Product.{symbol};
 ghost use Rattle.bits.specs.Matrix.{multiplied};

@@ -1,4 +1,6 @@
 // The violating fact that is taken of those that the two lent arrays hold: heads before triples, then lowest state, symbol and end state.
+#![tactic(auto)]
+
 ghost use Rattle.std.specs.Prelude.{◌≡◌};
 ghost use Rattle.lent.specs.Lending.{product_in};
 ghost use Rattle.table.specs.Places.{fact_of};
@@ -8,7 +10,7 @@ use lent::Lent;
 use table::{Fact, Size};
 
 // A fact whose run is asked for; or none is.
-#[derive(Drop)]
+#[derive(Clone, Copy)]
 pub enum Goal {
     Nothing,
     Of(Fact),

@@ -1,4 +1,6 @@
 // The decision: rounds over the two lent arrays until a violating fact is held, a round adds nothing, or the budget is spent.
+#![tactic(auto)]
+
 ghost use Rattle.std.specs.Prelude.{◌≡◌};
 ghost use Rattle.lent.specs.Lending.{shape_in, of_lent, model_in};
 ghost use Rattle.decide.specs.Decided.{Decided};
@@ -10,7 +12,7 @@ use model::Shape;
 use table::{Fact, Size};
 
 // A verdict with its rounds, or a refusal: 6, 7, and 8 with the budget.
-#[derive(Drop)]
+#[derive(Clone, Copy)]
 pub enum Decision {
     Violation(u16),
     Safe(u16),
@@ -20,7 +22,7 @@ pub enum Decision {
 }
 
 // What is looked for: the final states, from the start.
-#[derive(Drop)]
+#[derive(Clone, Copy)]
 struct Goal {
     finals: u64,
     state: usize,
@@ -29,7 +31,7 @@ struct Goal {
 
 // After a round: whether it added a fact, as a number that is 0 if it did not; the symbols with a new head; and the sets of the rules for the next
 // round, for its triples and for its heads.
-#[derive(Drop)]
+#[derive(Clone, Copy)]
 struct Next {
     more: u64,
     changed: u64,

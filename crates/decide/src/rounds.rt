@@ -13,7 +13,7 @@ use lent::Lent;
 use table::Size;
 
 // What the tests after a round say.
-#[derive(Drop)]
+#[derive(Clone, Copy)]
 enum Outcome {
     Goes,
     Ends(Decision),

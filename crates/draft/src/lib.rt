@@ -1,4 +1,6 @@
 // The model as far as its text is read, and what a line does to it. specs/Lines.antt says what each line does, and specs/Written.antt where it is written.
+#![tactic(auto)]
+
 ghost use Rattle.std.specs.Prelude.{◌≡◌, ℕ, ◌+◌, ◌*◌, ◌<◌, ◌≤◌};
 ghost use Rattle.numbers.specs.Number.{nth};
 ghost use Rattle.numbers.specs.declared.Numbers.{Numbers};
@@ -13,7 +15,7 @@ use modelline::{Line, Word};
 use numbers::Numbers;
 
 // What is read so far beside the lent rules, moves and truths of the model: its counts and its start.
-#[derive(Drop)]
+#[derive(Clone, Copy)]
 pub struct Outline {
     pub counts: Counts,
     pub startstate: u8,
@@ -21,7 +23,7 @@ pub struct Outline {
 }
 
 // What a line does: a refusal's number and the outline before it, or 0 and the outline after it.
-#[derive(Drop)]
+#[derive(Clone, Copy)]
 pub struct Noted {
     pub refusal: u8,
     pub outline: Outline,

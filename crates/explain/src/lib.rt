@@ -1,4 +1,6 @@
 // The explanation of a fact in a table of ranks: the first rule, then the first move, then the lowest state whose needed facts all have lower rank.
+#![tactic(auto)]
+
 ghost use Rattle.std.specs.Prelude.{◌≡◌, suc};
 ghost use Rattle.table.specs.Places.{fact_of};
 ghost use Rattle.explain.specs.Answers.{table_in, search_in, found_as, explained};
@@ -11,7 +13,7 @@ mod ways; // the ways in which a step may give a fact
 mod why; // a step tried for a fact
 
 // How many symbols, states, rules and moves a model has.
-#[derive(Drop)]
+#[derive(Clone, Copy)]
 pub struct Counts {
     pub size: Size,
     pub rules: usize,
@@ -19,7 +21,7 @@ pub struct Counts {
 }
 
 // An explanation: its rule and move, the head before the step, and the triples that are run after it.
-#[derive(Drop)]
+#[derive(Clone, Copy)]
 pub struct Cause {
     pub rule: usize,
     pub by: usize,
@@ -28,14 +30,14 @@ pub struct Cause {
     pub second: Goal,
 }
 
-#[derive(Drop)]
+#[derive(Clone, Copy)]
 pub enum Found {
     By(Cause),
     Nowhere,
 }
 
 // What is asked: the fact, in a table of this size, and the rank that what it needs may have at most.
-#[derive(Drop)]
+#[derive(Clone, Copy)]
 struct Ask {
     size: Size,
     f: Fact,
@@ -43,7 +45,7 @@ struct Ask {
 }
 
 // A step that is tried: its rule and move, and the one free state.
-#[derive(Drop)]
+#[derive(Clone, Copy)]
 struct Step {
     rule: usize,
     by: usize,

@@ -1,4 +1,6 @@
 // What a call with a model and a table tests first: the model (refusal 6), then the length of the two arrays (7). One door for all calls.
+#![tactic(auto)]
+
 ghost use Rattle.std.specs.Prelude.{◌≡◌};
 ghost use Rattle.lent.specs.Lending.{model_in};
 ghost use Rattle.fitting.specs.Fits.{size_of, fit_of};
@@ -7,7 +9,7 @@ use lent::Lent;
 use table::Size;
 
 // The document's number of the refusal, or 0, and then the size of the model's table and how many cells each array has of it.
-#[derive(Drop)]
+#[derive(Clone, Copy)]
 pub struct Fit {
     pub refusal: u8,
     pub size: Size,

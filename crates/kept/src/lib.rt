@@ -1,5 +1,7 @@
 // Whether a table keeps the consequences of a step: what the facts that are present give is present too. Any number but 65,535 means
 // present; ranks are not looked at.
+#![tactic(auto)]
+
 ghost use Rattle.std.specs.Prelude.{◌≡◌};
 ghost use Rattle.table.specs.Places.{fact_of};
 ghost use Rattle.model.specs.Answers.{meant, landed};
@@ -9,7 +11,7 @@ use model::{Next, Rule};
 use table::{Fact, Size};
 
 // A step as it is passed on: from the state q with g on top to the state q2 with g1 on top.
-#[derive(Drop)]
+#[derive(Clone, Copy)]
 struct Leg {
     q: usize,
     g: usize,

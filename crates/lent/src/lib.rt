@@ -1,4 +1,6 @@
 // A model as one lent array: those who have it ask by it, and only `steps` beside this crate reads its cells. specs/Lending.antt says which record it is.
+#![tactic(auto)]
+
 ghost use Rattle.std.specs.Prelude.{◌≡◌, ◌+◌, ◌*◌, ◌≤◌, ◌<◌, replicate};
 ghost use Rattle.lent.specs.Lending.{part, shape_in, row_in, model_in, product_in, next_by, InByte};
 ghost use Rattle.product.specs.Product.{symbol};
@@ -11,7 +13,7 @@ use model::{Move, Next, Rule, Shape};
 pub type Lent = [u8; 1936];
 
 // The numbers of a rule's row: its kind (0 exit, 1 direct, 2 call), its symbol, and the symbols that it puts on top and under that.
-#[derive(Drop)]
+#[derive(Clone, Copy)]
 pub struct Row {
     pub kind: u8,
     pub symbol: u8,

@@ -1,5 +1,7 @@
 // Whether a line may stand in a model text: the number of its refusal, by what was read before it. specs/Limits.antt has
 // the tests of each line.
+#![tactic(auto)]
+
 ghost use Rattle.std.specs.Prelude.{◌||◌, ◌≡◌};
 ghost use Rattle.limits.specs.Limits.{refusal, judged, uncounted, size_tests, start_tests, final_tests, event_tests, rule_tests, move_tests, tests};
 
@@ -18,7 +20,7 @@ const MOVES: usize = 128;
 
 // What a line is tested against: the sizes, 0 before they are given; `started`, 0 before the start is; the rules and the
 // moves so far.
-#[derive(Drop)]
+#[derive(Clone, Copy)]
 pub struct Counts {
     pub symbols: u8,
     pub states: u8,

@@ -1,4 +1,6 @@
 // One line of a text: whether it begins with a given word, and the numbers behind that. Nothing here knows a word.
+#![tactic(auto)]
+
 ghost use Rattle.std.specs.Prelude.{◌≡◌};
 ghost use Rattle.line.specs.Line.{spells, from};
 

@@ -1,4 +1,6 @@
 // Reads a listing into the two lent arrays of a table.
+#![tactic(auto)]
+
 ghost use Rattle.std.specs.Prelude.{◌≡◌, ℕ, ◌≤◌, length};
 ghost use Rattle.lent.specs.Lending.{model_in};
 ghost use Rattle.listing.specs.Reading.{refused_as, filled, Reads};
@@ -7,7 +9,7 @@ use lent::Lent;
 use table::{ABSENT, Size};
 
 // The rounds of an accepted listing, or why it is refused and the line.
-#[derive(Drop)]
+#[derive(Clone, Copy)]
 pub enum ListingRead {
     Accepted(u16),
     Invalid,

@@ -1,10 +1,12 @@
 // The words of a listing, and what one of its lines says: its word and its numbers.
+#![tactic(auto)]
+
 ghost use Rattle.std.specs.Prelude.{◌≡◌};
 ghost use Rattle.listingline.specs.Line.{line_at, line_from};
 
 use numbers::Numbers;
 
-#[derive(Drop)]
+#[derive(Clone, Copy)]
 pub enum Word {
     Safe,
     Head,
@@ -13,21 +15,21 @@ pub enum Word {
 }
 
 // A count of 0 where the fields behind the word are wrong, or the word is unknown.
-#[derive(Drop)]
+#[derive(Clone, Copy)]
 pub struct Line {
     pub word: Word,
     pub numbers: Numbers,
 }
 
 // A line and where it ends.
-#[derive(Drop)]
+#[derive(Clone, Copy)]
 pub struct LineRead {
     pub line: Line,
     pub end: usize,
 }
 
 // A word and where its numbers begin.
-#[derive(Drop)]
+#[derive(Clone, Copy)]
 struct Spelt(Word, usize);
 
 // The word that s begins with: nearly all lines begin with one of two, which are looked for first. An unknown one has no

@@ -1,4 +1,6 @@
 // The model record: what a model text says, as numbers. specs/Model.antt says which product it means.
+#![tactic(auto)]
+
 
 // Counts, the start, and arrays by number. A row of `rulerows` is a rule: its kind (0 exit, 1 direct, 2 call), its symbol, and the
 // one or two symbols that it pushes, the top first. A row of `moverows` is a move: state, event, state. `shows` has symbol·16 + event.
@@ -18,7 +20,7 @@ pub struct Model {
 }
 
 // What a record says beside its arrays.
-#[derive(Drop)]
+#[derive(Clone, Copy)]
 pub struct Shape {
     pub symbols: u8,
     pub states: u8,
@@ -30,7 +32,7 @@ pub struct Shape {
 }
 
 // A rule: g to nothing; g to g1; g to g1 on top of g2.
-#[derive(Drop)]
+#[derive(Clone, Copy)]
 pub enum Rule {
     Exit(usize),
     Direct(usize, usize),
@@ -38,7 +40,7 @@ pub enum Rule {
 }
 
 // A property move, from a state by an event to a state.
-#[derive(Drop)]
+#[derive(Clone, Copy)]
 pub struct Move {
     pub source: usize,
     pub event: usize,
@@ -46,7 +48,7 @@ pub struct Move {
 }
 
 // The property state after a step, or none, where rule and move make no step.
-#[derive(Drop)]
+#[derive(Clone, Copy)]
 pub enum Next {
     To(usize),
     Stuck,

@@ -1,10 +1,12 @@
 // The words of a model text, and what one of its lines says: its word and its numbers.
+#![tactic(auto)]
+
 ghost use Rattle.std.specs.Prelude.{◌≡◌};
 ghost use Rattle.modelline.specs.Line.{line_at, line_from};
 
 use numbers::Numbers;
 
-#[derive(Drop)]
+#[derive(Clone, Copy)]
 pub enum Word {
     Size,
     Start,
@@ -18,21 +20,21 @@ pub enum Word {
 }
 
 // A count of 0 where the fields behind the word are wrong, or the word is unknown.
-#[derive(Drop)]
+#[derive(Clone, Copy)]
 pub struct Line {
     pub word: Word,
     pub numbers: Numbers,
 }
 
 // A line and where it ends.
-#[derive(Drop)]
+#[derive(Clone, Copy)]
 pub struct LineRead {
     pub line: Line,
     pub end: usize,
 }
 
 // A word and where its numbers begin.
-#[derive(Drop)]
+#[derive(Clone, Copy)]
 struct Spelt(Word, usize);
 
 // The word that s begins with. An unknown one has no numbers: these begin past the end.

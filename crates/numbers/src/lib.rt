@@ -1,5 +1,7 @@
 // Fields and numbers of a text. A field of a line is what stands between two tabs; its number has one to five decimal
 // digits and no leading zero. Nothing here knows what the numbers mean.
+#![tactic(auto)]
+
 ghost use Rattle.std.specs.Prelude.{◌≡◌, ℕ, ◌+◌, ◌<◌, ◌≤◌, length, get_or};
 ghost use Rattle.text.specs.Split.{first};
 ghost use Rattle.numbers.specs.Number.{written, wrong};
@@ -11,14 +13,14 @@ ghost use Rattle.numbers.specs.Digits.{front, digits_of};
 pub const MOST: usize = 4;
 
 // The number that a field is.
-#[derive(Drop)]
+#[derive(Clone, Copy)]
 pub enum Number {
     Is(u32),
     Bad,
 }
 
 // The number of the field that a text begins with, where the field ends, and the byte there: zeros where it is no number.
-#[derive(Drop)]
+#[derive(Clone, Copy)]
 struct FieldRead {
     number: Number,
     end: usize,
@@ -26,7 +28,7 @@ struct FieldRead {
 }
 
 // The digits that a text begins with: how many, six at the most, the number that they write, and the byte behind them.
-#[derive(Drop)]
+#[derive(Clone, Copy)]
 struct Run {
     count: usize,
     value: u32,
@@ -34,21 +36,21 @@ struct Run {
 }
 
 // The numbers of a run of fields, zeros after them; a count of 0 where the fields are wrong.
-#[derive(Drop)]
+#[derive(Clone, Copy)]
 pub struct Numbers {
     pub count: usize,
     pub at: [u32; MOST],
 }
 
 // The numbers of the fields of a line, and where the line ends.
-#[derive(Drop)]
+#[derive(Clone, Copy)]
 pub struct FieldsRead {
     pub numbers: Numbers,
     pub end: usize,
 }
 
 // The decimal digits of a number, most significant first, zeros after them.
-#[derive(Drop)]
+#[derive(Clone, Copy)]
 pub struct Digits {
     pub count: usize,
     pub at: [u8; 5],

@@ -1,4 +1,6 @@
 // The part of lent memory that holds an answer.
+#![tactic(auto)]
+
 ghost use Rattle.std.specs.Prelude.{◌≡◌, take};
 
 // The first k bytes, or all where there are fewer.

@@ -1,5 +1,7 @@
 // Reads a model on standard input and writes the verdict with its evidence. All of the output is made by `report`, which is proved;
 // here it is only read and written. One byte more than the largest text is enough to see that a text is too long.
+#![tactic(auto)]
+
 use libc::{STDIN_FILENO, STDOUT_FILENO};
 
 fn write_answer(text: &[u8], out: &mut [u8]) {

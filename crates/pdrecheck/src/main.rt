@@ -1,5 +1,7 @@
 // Reads a model text with a listing behind it, and writes whether the table is accepted. All of the output is made by `rereport`, which is proved;
 // here it is only read and written. One byte more than the largest of both texts is enough to see that one is too long.
+#![tactic(auto)]
+
 use libc::{STDIN_FILENO, STDOUT_FILENO};
 
 fn write_answer(text: &[u8], out: &mut [u8]) {

@@ -1,5 +1,7 @@
 // Bytes put into lent memory: from a place on, as many as have room. The answer is the place behind them; one past the end of the memory and one more
 // says that something was cut, so that no place can wrap.
+#![tactic(auto)]
+
 ghost use Rattle.std.specs.Prelude.{◌≡◌, [], ◌∷◌};
 ghost use Rattle.product.specs.Lists.{over};
 ghost use Rattle.print.specs.Bytes.{field_bytes, line_bytes, named_bytes};

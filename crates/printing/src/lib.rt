@@ -1,4 +1,6 @@
 // Writes the listing of a table: `safe` with rounds and counts, then each head and each triple that is present, with its rank.
+#![tactic(auto)]
+
 ghost use Rattle.std.specs.Prelude.{◌≡◌, ℕ, ◌+◌, ◌-◌, ◌≤◌, length};
 ghost use Rattle.text.specs.Put.{Put};
 ghost use Rattle.lent.specs.Lending.{model_in};
@@ -12,14 +14,14 @@ use table::{ABSENT, Size};
 mod lay; // a line where it has room
 
 // What the cells of an array are of.
-#[derive(Drop)]
+#[derive(Clone, Copy)]
 pub enum Kind {
     Head,
     Triple,
 }
 
 // How many bytes the whole listing has; that `out` has not room for all of them; or why there is none.
-#[derive(Drop)]
+#[derive(Clone, Copy)]
 pub enum Written {
     Invalid,
     Short,

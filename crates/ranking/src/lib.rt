@@ -1,4 +1,6 @@
 // The rank that a line of a listing gives to a fact: put into the fact's cell, or refused.
+#![tactic(auto)]
+
 ghost use Rattle.table.specs.Places.{fact_of};
 ghost use Rattle.ranking.specs.Rank.{rank_fault, head_fault, head_put, triple_fault, triple_put, rank_put, Ranked};
 

@@ -1,4 +1,6 @@
 // Reads a model from its text into the lent bytes. specs/Text.antt says what is read, and specs/Says.antt what an accepted record holds.
+#![tactic(auto)]
+
 ghost use Rattle.std.specs.Prelude.{◌≡◌, [], ◌∷◌, ℕ, ◌≤◌, length, replicate};
 ghost use Rattle.std.proofs.lemmas.List.Edits.{sets};
 ghost use Rattle.product.specs.Answer.{refused};
@@ -17,7 +19,7 @@ use limits::Counts;
 const LONGEST: usize = 16384;
 
 // How a reading ends: with the number of the line that is refused, from 1, and 0 where no line is.
-#[derive(Drop)]
+#[derive(Clone, Copy)]
 pub enum Reading {
     Accepted,
     TooLong,

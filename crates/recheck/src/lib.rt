@@ -1,4 +1,6 @@
 // The table check: whether the facts in two lent arrays show that no run violates. It knows the model and the definitions, and no decision.
+#![tactic(auto)]
+
 ghost use Rattle.std.specs.Prelude.{◌≡◌};
 ghost use Rattle.lent.specs.Lending.{model_in};
 ghost use Rattle.recheck.specs.Recheck.{meaning, recheck};
@@ -8,7 +10,7 @@ use lent::Lent;
 use table::Fact;
 
 // The answer. specs/Recheck.antt gives the document's number and values of each.
-#[derive(Drop)]
+#[derive(Clone, Copy)]
 pub enum Recheck {
     Accepted,
     Invalid,
@@ -19,7 +21,7 @@ pub enum Recheck {
 }
 
 // The first rule and move that are not closed, or none.
-#[derive(Drop)]
+#[derive(Clone, Copy)]
 enum Found {
     At { rule: usize, by: usize },
     Nowhere,

@@ -1,4 +1,6 @@
 // The line of a refusal; and a model text read, with the line of its refusal put where it is no model.
+#![tactic(auto)]
+
 ghost use Rattle.std.specs.Prelude.{◌≡◌, [], ℕ, ◌<◌};
 ghost use Rattle.text.specs.Put.{Put};
 ghost use Rattle.reader.specs.Reading.{meaning, empty};
@@ -8,7 +10,7 @@ use lent::Lent;
 use reader::Reading;
 
 // A text that was read: whether it was accepted, and the place behind what was put.
-#[derive(Drop)]
+#[derive(Clone, Copy)]
 pub struct Seen {
     pub accepted: bool,
     pub end: usize,

@@ -1,4 +1,6 @@
 // The replay of a stored trace: a machine of a property state and a stack, whose symbols lie in a lent array, the top last.
+#![tactic(auto)]
+
 ghost use Rattle.std.specs.Prelude.{◌++◌, ◌≡◌, ◌≤◌, eqb, length, replicate, drop};
 ghost use Rattle.product.specs.Product.{symbol, pushed, loaded};
 ghost use Rattle.lent.specs.Lending.{model_in, product_in};
@@ -10,7 +12,7 @@ use lent::{Lent, is_final, is_valid, next_state, rule_at, shape};
 use model::{Next, Rule};
 
 // The answer to a trace: accepted; refusals 6, 7 and 12, with the number of the bad step.
-#[derive(Drop)]
+#[derive(Clone, Copy)]
 pub enum Replayed {
     Accepted,
     Invalid,
@@ -19,14 +21,14 @@ pub enum Replayed {
 }
 
 // The property state, and how many symbols are on the stack.
-#[derive(Drop)]
+#[derive(Clone, Copy)]
 pub struct Machine {
     pub state: usize,
     pub depth: usize,
 }
 
 // One step of the machine: into a state that is not final, none (with the step's number), or into a final state.
-#[derive(Drop)]
+#[derive(Clone, Copy)]
 pub enum Outcome {
     Moved(Machine),
     Blocked(usize),

@@ -1,4 +1,6 @@
 // What `pdcheck` prints, from the text that it reads: the refusal of the text, the trace of a violation, or the listing of a safe table.
+#![tactic(auto)]
+
 ghost use Rattle.std.specs.Prelude.{◌≡◌, T, length};
 ghost use Rattle.lent.specs.Lending.{model_in, product_in};
 ghost use Rattle.product.specs.Verdict.{bound};

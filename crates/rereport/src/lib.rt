@@ -1,4 +1,6 @@
 // What `pdrecheck` prints, from the text that it reads: the refusal of the model or of the listing behind it, or the answer of the table check.
+#![tactic(auto)]
+
 ghost use Rattle.std.specs.Prelude.{[], ◌∷◌, T, length, replicate};
 ghost use Rattle.lent.specs.Lending.{model_in};
 ghost use Rattle.model.specs.Valid.{valid};

@@ -1,4 +1,6 @@
 // What the lines of a listing do, one after another: they collect a table.
+#![tactic(auto)]
+
 ghost use Rattle.std.specs.Prelude.{◌≡◌, ℕ, ◌≤◌, length, List};
 ghost use Rattle.rows.specs.Lines.{safe_step, head_step, triple_step, step_of, agreement, finished, read_lines, read_text};
 ghost use Rattle.rows.specs.State.{nothing, whole, before, stepped, ended, Counted};
@@ -13,7 +15,7 @@ const LONGEST: usize = 45056;
 
 // What is read so far beside the ranks: the header, and how many lines of each kind came. The ranks are collected in two lent arrays.
 // The lines are counted in numbers of the machine's width: so the compiler keeps each count in a register of its own.
-#[derive(Drop)]
+#[derive(Clone, Copy)]
 pub struct Tally {
     pub begun: u8,
     pub rounds: u16,
@@ -24,14 +26,14 @@ pub struct Tally {
 }
 
 // What a line does: the document's number of its refusal, or 0, and the tally after it.
-#[derive(Drop)]
+#[derive(Clone, Copy)]
 pub struct Tallied {
     pub refusal: u8,
     pub tally: Tally,
 }
 
 // Where the reading ended, and why.
-#[derive(Drop)]
+#[derive(Clone, Copy)]
 pub struct End {
     pub refusal: u8,
     pub line: usize,

@@ -1,4 +1,6 @@
 // The two parts of one text: a model, and behind it a listing from the first line that starts with `safe`.
+#![tactic(auto)]
+
 ghost use Rattle.std.specs.Prelude.{◌≡◌, ◌<◌, length};
 ghost use Rattle.splitter.specs.Part.{starts_safe, place, listing_of, model_part};
 ghost use Rattle.splitter.specs.Search.{letter_of, safe_at};

@@ -1,5 +1,7 @@
 // The steps of each class of rules, as matrices: from which state to which. A rule's class is what its steps do to the property state; with
 // one location that is its symbol.
+#![tactic(auto)]
+
 ghost use Rattle.std.specs.Prelude.{◌&&◌, ◌||◌, ◌≡◌, ℕ, ◌+◌, ◌*◌, ◌%◌, ◌^◌, ◌<◌, ◌≤◌, min, get_or};
 ghost use Rattle.bits.specs.Bit.{bit};
 ghost use Rattle.bits.specs.Matrix.{some};
@@ -12,7 +14,7 @@ ghost use Rattle.steps.specs.Steps.{class_of, symbol_of, class_steps, states_aft
 use lent::Lent;
 
 // A rule by its numbers: its kind, its class, the symbol that it puts on top, and the one under that. Those that a rule does not use may be anything.
-#[derive(Drop)]
+#[derive(Clone, Copy)]
 pub struct Row {
     pub kind: u8,
     pub class: usize,

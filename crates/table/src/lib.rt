@@ -1,4 +1,6 @@
 // The two lent arrays of a table: 16-bit ranks, 65,535 for a fact that isn't held. Here alone is said what a fact is, and where its cell lies.
+#![tactic(auto)]
+
 ghost use Rattle.std.specs.Prelude.{◌≡◌, ◌≤◌, length};
 ghost use Rattle.product.specs.Facts.{head};
 ghost use Rattle.table.specs.Cells.{head_count, triple_count, view, cleared};
@@ -8,21 +10,21 @@ ghost use Rattle.table.specs.Places.{fact_of, place_of, read_at, put_at};
 pub const ABSENT: u16 = 65535;
 
 // How many symbols and states a table is for.
-#[derive(Drop)]
+#[derive(Clone, Copy)]
 pub struct Size {
     pub symbols: u8,
     pub states: u8,
 }
 
 // A fact: a head, of a state and a symbol; or a triple, of a state, a symbol and the state in which the symbol is erased.
-#[derive(Drop)]
+#[derive(Clone, Copy)]
 pub enum Fact {
     Head(usize, usize),
     Triple(usize, usize, usize),
 }
 
 // Where the rank of a fact lies: in a cell; or nowhere, where the fact's numbers are out of range.
-#[derive(Drop)]
+#[derive(Clone, Copy)]
 pub enum Place {
     Outside,
     Cell(usize),

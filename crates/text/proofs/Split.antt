@@ -103,6 +103,7 @@ first_without c (b ∷ s) t = go (first_without c s) (eqb b c) t
   where
     go : (T (without c s) → first c s ≡ s) → (d : Bool) → T (not d && without c s) → pick d [] (b ∷ first c s) ≡ b ∷ s
     go more false t = ap (λ l. b ∷ l) (more t)
+    go more true t = elim t [ ]
 
 pub later_without : (c : ℕ) (s : List ℕ) → T (without c s) → later c s ≡ []
 later_without c s t = later_none c s (rw (first_without c s t) (le_refl _))
@@ -124,6 +125,7 @@ without_append c (b ∷ s) t h k = go (without_append c s t) (eqb b c) h
   where
     go : (T (without c s) → T (without c t) → T (without c (s ++ t))) → (d : Bool) → T (not d && without c s) → T (not d && without c (s ++ t))
     go more false h = more h k
+    go more true h = elim h [ ]
 
 -- splitting takes a piece off
 pub split_append : (c : ℕ) (s t : List ℕ) → T (without c s) → split c (s ++ c ∷ t) ≡ s ∷ split c t
@@ -138,6 +140,7 @@ split_append c (b ∷ s) t h = go (split_append c s t) (eqb b c) h
     go : (T (without c s) → split c (s ++ c ∷ t) ≡ s ∷ split c t) → (d : Bool) → T (not d && without c s)
         → pick d [] (b ∷ first c (s ++ c ∷ t)) ∷ pick d (split c (s ++ c ∷ t)) (later c (s ++ c ∷ t)) ≡ (b ∷ s) ∷ split c t
     go more false h = ap (on_first b) (more h)
+    go more true h = elim h [ ]
 
 -- splitting loses nothing: the pieces joined again are the list
 pub joined_split : (c : ℕ) (s : List ℕ) → joined c (first c s) (later c s) ≡ s

@@ -1,4 +1,6 @@
 // The bytes of a text: where a byte stands, and whether two runs of bytes are the same.
+#![tactic(auto)]
+
 ghost use Rattle.std.specs.Prelude.{◌≡◌, length};
 ghost use Rattle.text.specs.Split.{first, same_bytes};
 

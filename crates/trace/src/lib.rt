@@ -1,4 +1,6 @@
 // The trace: the explanation of a fact, found in the two arrays of ranks, and unfolded to the steps of a run.
+#![tactic(auto)]
+
 ghost use Rattle.std.specs.Prelude.{◌≡◌, [], ◌∷◌, ◌+◌, ◌*◌, ◌<◌, length};
 ghost use Rattle.lent.specs.Lending.{shape_in, of_lent, model_in};
 ghost use Rattle.text.specs.Put.{Put};
@@ -14,7 +16,7 @@ use lent::Lent;
 use model::Shape;
 
 // The answer of the call: the trace was found, with its rounds and steps; or a refusal, whose number specs/Outcome.antt says.
-#[derive(Drop)]
+#[derive(Clone, Copy)]
 pub enum Traced {
     Found { rounds: u16, steps: usize },
     Invalid,
@@ -25,7 +27,7 @@ pub enum Traced {
 }
 
 // A run that is to be written: the fact whose run it is, or none, and the place of its first step.
-#[derive(Drop)]
+#[derive(Clone, Copy)]
 struct Run {
     of: Goal,
     at: usize,

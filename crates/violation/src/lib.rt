@@ -1,4 +1,6 @@
 // Puts a violation: its rounds, and a line for each step of its trace.
+#![tactic(auto)]
+
 ghost use Rattle.std.specs.Prelude.{◌≡◌, ℕ, ◌≤◌, min, length};
 ghost use Rattle.lent.specs.Lending.{model_in, product_in};
 ghost use Rattle.model.specs.Answers.{meant};
