@@ -63,3 +63,4 @@ module _ (m : Model) (s : Step) where
       from (q, g ∷ w) d (h, e) =
           subst (λ g. step (product_of m) s (q, g ∷ w) ≡ some d) h.top
           (step_of_lem (product_of m) s q (move m s.by_move).target w (fits_next q g h) ∙ ap some (sym e))
+      from (q , mathlib.Core.List.[]) d x3 = elim x3 [ ]
