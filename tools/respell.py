@@ -23,6 +23,8 @@ LEMMAS = (
 )
 APART = {"byRule": "way_by_rule", "byMove": "way_by_move", "byRank": "way_by_rank"}
 APART.update({n: n.replace("-", "_") + "_lem" for n in LEMMAS.split()})
+# Names of the library that a file of ours defines too: they stay.
+LIBRARY = {"or-false", "and-true"}
 # Lemmas that port.py had respelled already, with the files that name them.
 HERE = {
     "decide/proofs/RoundTriples.antt": {"given_by": "given_by_lem"},
@@ -71,7 +73,7 @@ def main(argv):
     report = "--report" in argv
     argv = [a for a in argv if a != "--report"]
     root = argv[0] if argv else "."
-    names = {n: APART.get(n, spelled(n)) for n in defined(root)}
+    names = {n: APART.get(n, spelled(n)) for n in defined(root) - LIBRARY}
     names = {n: to for n, to in names.items() if n != to}
     print(len(names), "names")
     for f in files(root, ["specs/**/*.antt", "proofs/**/*.antt", "src/**/*.rt", "must-fail/*.edit"]):

@@ -1,5 +1,5 @@
 -- Where a matrix leads from a set of states, as it is computed: the rows that it names, joined. Assumes nothing.
-use mathlib.Core.Bool.{Bool, true, false, cond, ◌&&◌, ◌||◌, or_assoc, or_false}
+use mathlib.Core.Bool.{Bool, true, false, cond, ◌&&◌, ◌||◌, or_assoc, or-false}
 use mathlib.Core.Path.{◌≡◌, refl, sym, ap, ap₂, ◌∙◌}
 use Prim.Native.Nat.{ℕ, zero, suc, ◌+◌, ◌*◌, ◌/◌, ◌^◌, ◌<◌}
 use native.Mathlib.Nat.{add-suc, add-zero, zero-add}
@@ -21,7 +21,7 @@ or_both false true false d = refl
 or_both false false c d = refl
 
 some_more : (n m : ℕ) (f : ℕ → Bool) → some (n + m) f ≡ some n f || some m (λ k. f (n + k))
-some_more n zero f = ap (λ i. some i f) (add-zero n) ∙ sym (or_false (some n f))
+some_more n zero f = ap (λ i. some i f) (add-zero n) ∙ sym (or-false (some n f))
 some_more n (suc m) f =
     ap (λ i. some i f) (add-suc n m) ∙ ap (λ b. b || f (n + m)) (some_more n m f) ∙ or_assoc (some n f) (some m (λ k. f (n + k))) (f (n + m))
 

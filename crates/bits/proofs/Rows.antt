@@ -1,5 +1,5 @@
 -- A set of states as a matrix: row k full where it has state k. Assumes nothing.
-use mathlib.Core.Bool.{◌&&◌, ◌||◌, and_true, or_false}
+use mathlib.Core.Bool.{◌&&◌, ◌||◌, and-true, or-false}
 use mathlib.Core.Path.{◌≡◌, refl, sym, ap, ap₂, ◌∙◌}
 use Prim.Native.Nat.{ℕ, zero, suc, ◌+◌, ◌*◌, ◌%◌, ◌^◌, ◌<◌}
 use native.Mathlib.Nat.{mul-add, mul_assoc, mul-one, zero-mul, add-zero, mul-le-mul_right, lt_of_le_of_lt}
@@ -54,7 +54,7 @@ column_at v k h =
         (ap (bit (seven v)) {x = k * 8} {y = k * 7 + k} (omega arith) ∙ ap (λ c. bit (bit_and v 127 * c) (k * 7 + k)) (sym ones_7)
         ∙ repeat 7 7 (bit_and v 127) k k (mask_lt v 7) l l ∙ ap (λ n. bit n k) (and_mask v 7) ∙ bit_low v 7 k l)
         (bit_shl_below v 64 49 (k * 8) (omega arith) (omega arith))
-        ∙ or_false (bit v k)
+        ∙ or-false (bit v k)
     go (no l) =
         ap₂ ◌||◌ (bit_past (seven v) 49 (k * 8) (seven_lt v) (omega arith))
         (ap (bit ((v * 2 ^ 49) % 2 ^ 64)) {x = k * 8} {y = k + 49} (omega arith) ∙ bit_shl v 64 49 k (omega arith))
@@ -69,4 +69,4 @@ filled_fits d = record { fits = lt_of_le_of_lt (mul-le-mul_right 255 (and_le_r d
 pub filled_at : (d k x : ℕ) → k < 8 → x < 8 → entry (filled d) k x ≡ entry d k 0
 filled_at d k x hk hx =
     ap (λ n. entry (bit_and d n * 255) k x) (sym ones_8) ∙ outer 255 (lit< tt) 8 d k x hk hx
-    ∙ ap₂ ◌&&◌ (ap (bit d) (sym (add-zero (k * 8)))) (bit_ones 8 x hx) ∙ and_true (entry d k 0)
+    ∙ ap₂ ◌&&◌ (ap (bit d) (sym (add-zero (k * 8)))) (bit_ones 8 x hx) ∙ and-true (entry d k 0)

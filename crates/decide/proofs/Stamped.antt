@@ -1,5 +1,5 @@
 -- One bit of a matrix stamped, and then the rest. Assumes nothing.
-use mathlib.Core.Bool.{Bool, true, false, cond, not, ◌&&◌, and_true}
+use mathlib.Core.Bool.{Bool, true, false, cond, not, ◌&&◌, and-true}
 use mathlib.Core.List.{List, []}
 use mathlib.Core.Path.{◌≡◌, refl, sym, ap, ap₂, ◌∙◌, subst, subst⁻¹, fun_ext}
 use Prim.Native.Nat.{ℕ, ◌+◌, ◌-◌, ◌*◌, ◌/◌, ◌%◌, ◌^◌, ◌<◌, ◌≤◌}
@@ -82,7 +82,7 @@ module _ (k g d : ℕ) (pos : 0 < d) (small : d < 2 ^ 64) (t : Table) where
       at (triple q g' e) =
           by (eqb g' g)
           (λ u. by (ltb e 8)
-          (λ v. rw (u, v, eq-eqb g g' (sym (eqb-true g' g u)), and_true (eqb (low / 8) q)) (cell q e (t (triple q g' e)) (ltb-true e 8 v)))
+          (λ v. rw (u, v, eq-eqb g g' (sym (eqb-true g' g u)), and-true (eqb (low / 8) q)) (cell q e (t (triple q g' e)) (ltb-true e 8 v)))
           (λ v. rw (u, v, ne_eqb (low % 8) e (λ x. omega (arith, ltb-false e 8 v, mod-lt low eight)), and_right_false (eqb (low / 8) q && eqb g g'))))
           (λ u. rw (u, ne_eqb g g' (λ x. eqb-false g' g u (sym x)), and_right_false (eqb (low / 8) q)))
 
@@ -108,7 +108,7 @@ module _ (k g d : ℕ) (pos : 0 < d) (small : d < 2 ^ 64) (t : Table) where
       at (triple q g' e) = refl
       at (head q g') =
           by (eqb g' g)
-          (λ u. rw (u, eq-eqb g g' (sym (eqb-true g' g u)), and_true (eqb low q)) (head_cell_lem q (t (head q g'))))
+          (λ u. rw (u, eq-eqb g g' (sym (eqb-true g' g u)), and-true (eqb low q)) (head_cell_lem q (t (head q g'))))
           (λ u. rw (u, ne_eqb g g' (λ x. eqb-false g' g u (sym x)), and_right_false (eqb low q)))
 
 heads_none : (k g : ℕ) (t : Table) → stamped_heads k g 0 t ≡ t

@@ -1,5 +1,5 @@
 -- The consequences of a step by what the code was answered of it; and the check's tests are those of the product's ways. Assumes nothing.
-use mathlib.Core.Bool.{Bool, true, false, not, ◌&&◌, ◌||◌, and_true}
+use mathlib.Core.Bool.{Bool, true, false, not, ◌&&◌, ◌||◌, and-true}
 use mathlib.Core.List.{List, [], ◌∷◌, ◌++◌}
 use mathlib.Core.Option.{Option}
 use mathlib.Core.Path.{◌≡◌, refl, ap, ap₂, ◌∙◌}
@@ -65,7 +65,7 @@ module _ {A : Type 0} where
 
 -- a way that needs one fact, and one that needs two
 one : (a b : Bool) → (not (a && true) || b) ≡ (not a || b)
-one a b = rw (and_true a)
+one a b = rw (and-true a)
 
 two : (a b c : Bool) → (not (a && (b && true)) || c) ≡ (not a || (not b || c))
 two true b c = one b c
@@ -96,7 +96,7 @@ module _ (states : ℕ) (t : Fact → Bool) (s : Step) (q q' : ℕ) where
 
   -- the tests of a rule are those of its consequences
   pub kept_is : (ρ : product.Rule) → all (keeps t) (consequences (up_to states) s q q' ρ) ≡ rule_kept states t q q' ρ
-  kept_is (exit g) = and_true (t (triple q g q'))
+  kept_is (exit g) = and-true (t (triple q g q'))
   kept_is (direct g g1) =
       ap (λ b. b && all (keeps t) (each (up_to states) (backs s q g q' g1))) (entering g g1)
       ∙ ap (λ b. head_passes t q g q' g1 && b)

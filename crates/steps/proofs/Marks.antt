@@ -1,5 +1,5 @@
 -- The events that a symbol shows, marked in two words, and their matrices, joined mark by mark. Assumes nothing.
-use mathlib.Core.Bool.{Bool, true, false, cond, ◌&&◌, ◌||◌, and_true}
+use mathlib.Core.Bool.{Bool, true, false, cond, ◌&&◌, ◌||◌, and-true}
 use mathlib.Core.List.{List}
 use mathlib.Core.Logic.{◌⊎◌, inl, inr}
 use mathlib.Core.Path.{◌≡◌, refl, sym, ap, ap₂, ◌∙◌, subst, subst⁻¹}
@@ -23,7 +23,7 @@ use Rattle.model.specs.Model.{shows_at}
 use Rattle.lent.specs.Lending.{is_true}
 use Rattle.steps.specs.Events.{marks, marked}
 use Rattle.steps.proofs.Words.{same_bits, word_bits}
-use Rattle.steps.proofs.Events.{or_false}
+use Rattle.steps.proofs.Events.{or-false}
 use Rattle.steps.proofs.Built.{Joined}
 
 and_off : (a : Bool) → a && false ≡ false
@@ -48,7 +48,7 @@ module _ (b k : ℕ) (small : b < 256) (in-word : k < 8) where
 
   marked_bit : (i : ℕ) → Dec (i ≡ k * 8) → bit byte i && bit lows i ≡ bit (cond (is_true b) (2 ^ (k * 8)) 0) i
   marked_bit i (yes e) =
-      ap₂ ◌&&◌ (ap (bit byte) e ∙ lowest_bit) (lows_bits i ∙ here) ∙ and_true (is_true b) ∙ sym (ap (bit (cond (is_true b) (2 ^ (k * 8)) 0)) e ∙ one (is_true b))
+      ap₂ ◌&&◌ (ap (bit byte) e ∙ lowest_bit) (lows_bits i ∙ here) ∙ and-true (is_true b) ∙ sym (ap (bit (cond (is_true b) (2 ^ (k * 8)) 0)) e ∙ one (is_true b))
     where
       here : ltb i 64 && eqb (i % 8) 0 ≡ true
       here = rw (lt-ltb i 64 (omega arith), eq-eqb (i % 8) 0 (omega arith))
@@ -169,7 +169,7 @@ module _ (on : List ℕ) (first : ℕ) where
   pub left_last : (w m d r : ℕ) → d ≡ 0 → Left w m d r → (i : ℕ) → bit r i ≡ bit m i || marked on first w i
   unfolding marked
   left_last w m d r e l i =
-      or_false (bit r i)
+      or-false (bit r i)
       ∙ ap (λ b. bit r i || b) (sym (ap (λ d. marked on first d i) e ∙ some_none 64 (λ j. bit (get_or on (first + j / 8) 0) i)))
       ∙ l i
 
