@@ -62,6 +62,8 @@ spelled (a ∷ s) (b ∷ w) p q = go (spelled s w) (eqb a b) refl p q
         same : (y z : Bool) → eqb a 9 ≡ y → eqb a 10 ≡ z → T (not y && without 9 w) → T (not z && without 10 w)
             → (stop (get_or s (length w) 10) && same_bytes (take (length w) s) w) ≡ same_bytes (first 9 (pick z [] (a ∷ first 10 s))) (b ∷ w)
         same false false k l p q = rw (k, e) (more p q)
+        same false true k l p q = elim q [ ]
+        same true z k l p q = elim p [ ]
 
 -- what the answer tells of the fields of the line
 module _ (s w : List ℕ) (p : T (without 9 w)) (q : T (without 10 w)) {b : Bool} (e : b ≡ spells s w) where
