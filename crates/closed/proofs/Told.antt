@@ -22,10 +22,10 @@ module _ (ts hs : List ℕ) (x g1 : ℕ) {a : ℕ} {b : Bool} (top : a ≡ of_sy
   abbrev Both : (g2 : ℕ) → Bool
   Both g2 = included x (of_symbol hs g1) && included (image x (of_symbol ts g1)) (of_symbol hs g2)
 
-  pub heads_not : (g2 : ℕ) → not b ≡ true → false ≡ Both g2
+  pub heads_not : (g2 : ℕ) → b ≡ false → false ≡ Both g2
   heads_not g2 n = rw (failed heads_direct n)
 
-  pub heads_call : (g2 : ℕ) {e y d : ℕ} {b' : Bool} → not b ≡ false → e ≡ of_symbol ts g1 → y ≡ image x e → d ≡ of_symbol hs g2 → b' ≡ included y d
+  pub heads_call : (g2 : ℕ) {e y d : ℕ} {b' : Bool} → b ≡ true → e ≡ of_symbol ts g1 → y ≡ image x e → d ≡ of_symbol hs g2 → b' ≡ included y d
       → b' ≡ Both g2
   heads_call g2 n erased back under tested' =
       tested' ∙ ap₂ included (back ∙ ap (image x) erased) under ∙ ap (λ c. c && included (image x (of_symbol ts g1)) (of_symbol hs g2)) (sym (passed heads_direct n))
@@ -34,11 +34,11 @@ module _ (ts hs : List ℕ) (s : ℕ) (ρ : Rule) {g m a : ℕ} {b : Bool} (is :
   erased_is : b ≡ included (erasing ts s ρ) (of_symbol ts (symbol ρ))
   erased_is = tested ∙ ap₂ included gives (own ∙ ap (of_symbol ts) is)
 
-  pub not_closed : not b ≡ true → false ≡ rule_closed ts hs s ρ
+  pub not_closed : b ≡ false → false ≡ rule_closed ts hs s ρ
   unfolding rule_closed
   not_closed n = rw (failed erased_is n)
 
-  pub closed_by : not b ≡ false → {h x : ℕ} {c : Bool} → h ≡ of_symbol hs g → x ≡ image h s → c ≡ heads_there ts hs x ρ → c ≡ rule_closed ts hs s ρ
+  pub closed_by : b ≡ true → {h x : ℕ} {c : Bool} → h ≡ of_symbol hs g → x ≡ image h s → c ≡ heads_there ts hs x ρ → c ≡ rule_closed ts hs s ρ
   unfolding rule_closed
   closed_by n held lands there =
       there ∙ ap (λ x. heads_there ts hs x ρ) (lands ∙ ap (λ v. image v s) (held ∙ ap (of_symbol hs) is))

@@ -20,10 +20,10 @@ find_same p r (x ∷ xs) h = rw (h x (inl refl), find_same p r xs (λ y i. h y (
 
 -- one element alone, of which a test was made
 module _ {A : Type 0} (k : A → Bool) (x : A) {b : Bool} (tested : b ≡ k x) where
-  pub hit : not b ≡ true → find (λ x. not (k x)) (x ∷ []) ≡ some x
+  pub hit : b ≡ false → find (λ x. not (k x)) (x ∷ []) ≡ some x
   hit h = rw (failed tested h)
 
-  pub miss : not b ≡ false → find (λ x. not (k x)) (x ∷ []) ≡ none
+  pub miss : b ≡ true → find (λ x. not (k x)) (x ∷ []) ≡ none
   miss h = rw (passed tested h)
 
 -- what the code answered

@@ -68,21 +68,21 @@ module _ (m : Model) (hs ts : List ℕ) {f : Fit} (measured : f ≡ fit_of m (le
     checks = tested_well m (length hs) (length ts) fits _ _ _
 
     module _ {c : Bool} (start : c ≡ facts m hs ts (first (product_of m))) where
-      pub has_no_start : not c ≡ true → meaning NoStart ≡ recheck m hs ts
+      pub has_no_start : c ≡ false → meaning NoStart ≡ recheck m hs ts
       has_no_start n = sym (checks ∙ ap check_answer (starts_not (product_of m) (facts m hs ts) (failed start n)))
 
-      module _ (i : not c ≡ false) {d : Bool} (looked : d ≡ clean_in (product_of m).final m.symbols m.states hs ts m.startstate m.startsymbol) where
+      module _ (i : c ≡ true) {d : Bool} (looked : d ≡ clean_in (product_of m).final m.symbols m.states hs ts m.startstate m.startsymbol) where
         clean_is : clean (product_of m) (facts m hs ts) ≡ d
         clean_is =
             let v = fits.valid_model in
             sym (clean_found (product_of m) (product_of m).final m.states refl (λ _. refl) hs ts (start_state_in m v) (start_symbol_in m v)) ∙ sym looked
 
-        pub has_violating : not d ≡ true → meaning Violating ≡ recheck m hs ts
-        has_violating n = sym (checks ∙ ap check_answer (violates (product_of m) (facts m hs ts) (passed start i) (clean_is ∙ not-true d n)))
+        pub has_violating : d ≡ false → meaning Violating ≡ recheck m hs ts
+        has_violating n = sym (checks ∙ ap check_answer (violates (product_of m) (facts m hs ts) (passed start i) (clean_is ∙ n)))
 
-        module _ (l : not d ≡ false) {o : Found} (found : o ≡ found_as (opening_of m (facts m hs ts))) where
+        module _ (l : d ≡ true) {o : Found} (found : o ≡ found_as (opening_of m (facts m hs ts))) where
           searched : recheck m hs ts ≡ check_answer (open_at (opening_of m (facts m hs ts)))
-          searched = checks ∙ ap check_answer (opens (product_of m) (facts m hs ts) (passed start i) (clean_is ∙ not-false d l) ∙ ap open_at (open_is m (facts m hs ts)))
+          searched = checks ∙ ap check_answer (opens (product_of m) (facts m hs ts) (passed start i) (clean_is ∙ l) ∙ ap open_at (open_is m (facts m hs ts)))
 
           pub is_open : {r v : ℕ} → o ≡ At r v → meaning (Open r v) ≡ recheck m hs ts
           is_open e = sym (searched ∙ ap (λ o. check_answer (open_at o)) (found_some (opening_of m (facts m hs ts)) found e))

@@ -46,10 +46,10 @@ module _ (m : Model) (tg ts hs : List ℕ) (r : ℕ) {c : ℕ} {ρ : Rule} {b : 
   unfolding closed_by
   by_matrices = tested ∙ ap (λ c. rule_closed ts hs (get_or tg c 0) (meant ρ)) class ∙ ap (rule_closed ts hs (get_or tg (class_of m r) 0)) (ap meant read ∙ meant_as (rule m r))
 
-  pub opens_here : (n : ℕ) → r < n → ((j : ℕ) → j < r → T (closed_by m tg ts hs j)) → not b ≡ true → FirstOpen (closed_by m tg ts hs) n r
+  pub opens_here : (n : ℕ) → r < n → ((j : ℕ) → j < r → T (closed_by m tg ts hs j)) → b ≡ false → FirstOpen (closed_by m tg ts hs) n r
   opens_here n l k h = record { within = omega arith; before = k; here = λ _. failed by_matrices h }
 
-  pub closed_more : ((j : ℕ) → j < r → T (closed_by m tg ts hs j)) → not b ≡ false → (j : ℕ) → j < r + 1 → T (closed_by m tg ts hs j)
+  pub closed_more : ((j : ℕ) → j < r → T (closed_by m tg ts hs j)) → b ≡ true → (j : ℕ) → j < r + 1 → T (closed_by m tg ts hs j)
   closed_more k h = below_more (λ j. T (closed_by m tg ts hs j)) r k (rw (passed by_matrices h) tt)
 
 pub all_closed : (p : ℕ → Bool) (n r : ℕ) → r ≤ n → n ≤ r → ((j : ℕ) → j < r → T (p j)) → FirstOpen p n r

@@ -29,19 +29,19 @@ means_replayed (stops k) = refl
 
 -- b is what the test of the record gave
 module _ (m : Model) (steps cells : List ℕ) {b : Bool} (tested : b ≡ valid m) where
-  pub invalid : not b ≡ true → Replays m steps cells Invalid cells
-  invalid n = record { answer = rw (sym tested ∙ not-true b n); cells = refl }
+  pub invalid : b ≡ false → Replays m steps cells Invalid cells
+  invalid n = record { answer = rw (sym tested ∙ n); cells = refl }
 
-  pub short : not b ≡ false → length cells ≤ length steps → Replays m steps cells Short cells
-  short y l = record { answer = rw (sym tested ∙ not-false b y, le-ltb (length steps) (length cells) l); cells = refl }
+  pub short : b ≡ true → length cells ≤ length steps → Replays m steps cells Short cells
+  short y l = record { answer = rw (sym tested ∙ y, le-ltb (length steps) (length cells) l); cells = refl }
 
-  pub runs : not b ≡ false → length steps < length cells → Runs m steps cells
-  runs y l = record { is_valid = is_valid m tested (not-false b y); room = l }
+  pub runs : b ≡ true → length steps < length cells → Runs m steps cells
+  runs y l = record { is_valid = is_valid m tested (y); room = l }
 
-  pub ran : not b ≡ false → length steps < length cells → (r : Replayed) (run cleared : List ℕ) → Ran m steps cells r run
+  pub ran : b ≡ true → length steps < length cells → (r : Replayed) (run cleared : List ℕ) → Ran m steps cells r run
       → cleared ≡ replicate (length steps + 1) 0 ++ drop (length steps + 1) run → Replays m steps cells r cleared
   ran y l r run cleared h e = record {
-    answer = rw (sym tested ∙ not-false b y, lt-ltb (length steps) (length cells) l) (ap meaning h.answer ∙ means_replayed (replay (product_of m) (each steps loaded)));
+    answer = rw (sym tested ∙ y, lt-ltb (length steps) (length cells) l) (ap meaning h.answer ∙ means_replayed (replay (product_of m) (each steps loaded)));
     cells =
         e ∙ ap (λ (x : List ℕ). replicate (length steps + 1) 0 ++ x) h.rest
         ∙ sym (ap (λ (r : Replayed). left r (length steps + 1) cells) h.answer ∙ left_replayed (replay (product_of m) (each steps loaded)) (length steps + 1) cells);

@@ -29,11 +29,11 @@ module _ (p : Product) (s : Step) (q g : ℕ) where
     on_top : b ≡ eqb (symbol (rule_of p s)) g
     on_top = tested ∙ ap (λ (ρ : Rule). eqb (symbol (meant ρ)) g) read ∙ ap (λ ρ. eqb (symbol ρ) g) (meant_as (rule_of p s))
 
-    pub other_top : not b ≡ true → Stuck ≡ answer
-    other_top n = rw (sym on_top ∙ not-true b n)
+    pub other_top : b ≡ false → Stuck ≡ answer
+    other_top n = rw (sym on_top ∙ n)
 
-    pub its_top : not b ≡ false → {n : Next} → n ≡ next_as (p.next s q) → n ≡ answer
-    its_top f e = rw (sym on_top ∙ not-false b f) e
+    pub its_top : b ≡ true → {n : Next} → n ≡ next_as (p.next s q) → n ≡ answer
+    its_top f e = rw (sym on_top ∙ f) e
 
   -- the answer of the code, and the product's step
   pub went : {n n' : Next} → n ≡ answer → n ≡ n' → goes_at p s q g ≡ landed n'

@@ -1,0 +1,24 @@
+-- `lent::shows` meets its contract: event 0 is shown, and past the end nothing is. Assumes nothing.
+use native.Mathlib.Omega.{arith}
+use mathlib.Core.Path.{refl}
+use Rattle.lent.proofs.Parts.{shows_zero, shows_cell, shows_past}
+use Rattle.lent.proofs.shows.Goals as goal
+
+pub returns-then-e-eq0 : goal.returns-then-e-eq0
+returns-then-e-eq0 c = let a = c.args in shows_zero a.m.now a.g a.e c.if-e-eq0.true
+
+pub returns-then-g-ge32 : goal.returns-then-g-ge32
+returns-then-g-ge32 c = let a = c.args in shows_past a.m.now a.g a.e c.if-e-eq0.false (omega arith)
+
+pub returns-then-e-ge512 : goal.returns-then-e-ge512
+returns-then-e-ge512 c = let a = c.args in shows_past a.m.now a.g a.e c.if-e-eq0.false (omega arith)
+
+pub returns-then-at-ge512 : goal.returns-then-at-ge512
+returns-then-at-ge512 c =
+    let a = c.args in
+    shows_past a.m.now a.g a.e c.if-e-eq0.false c.if-at-ge512.true
+
+pub returns : goal.returns
+returns c =
+    let a = c.args in
+    shows_cell a.m.now a.g a.e _ c.if-e-eq0.false refl c.if-at-ge512.false
