@@ -23,7 +23,7 @@ use Rattle.model.specs.Model.{shows_at}
 use Rattle.lent.specs.Lending.{is_true}
 use Rattle.steps.specs.Events.{marks, marked}
 use Rattle.steps.proofs.Words.{same_bits, word_bits}
-use Rattle.steps.proofs.Events.{or-false}
+use Rattle.steps.proofs.Events.{or_false}
 use Rattle.steps.proofs.Built.{Joined}
 
 and_off : (a : Bool) → a && false ≡ false
@@ -169,7 +169,7 @@ module _ (on : List ℕ) (first : ℕ) where
   pub left_last : (w m d r : ℕ) → d ≡ 0 → Left w m d r → (i : ℕ) → bit r i ≡ bit m i || marked on first w i
   unfolding marked
   left_last w m d r e l i =
-      or-false (bit r i)
+      or_false (bit r i)
       ∙ ap (λ b. bit r i || b) (sym (ap (λ d. marked on first d i) e ∙ some_none 64 (λ j. bit (get_or on (first + j / 8) 0) i)))
       ∙ l i
 
