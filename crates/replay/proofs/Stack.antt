@@ -27,7 +27,7 @@ module _ (cells : List ℕ) where
       let e : suc d - 1 ≡ d = omega arith in
       record {
         deep = omega arith;
-        stack = rw (e, get_or-set_same cells d g1 0 (omega arith), below_set cells d d g1 (omega arith));
+        stack = rw (e, get_or-set_same cells d g1 0 (omega arith)) ?;
         rest = λ k h. rw e (drop-set-lt k cells d g1 (omega arith));
       }
 

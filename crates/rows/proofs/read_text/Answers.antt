@@ -1,0 +1,14 @@
+-- `rows::read_text` meets its contract. Assumes nothing.
+use mathlib.Core.Path.{ap, ◌∙◌}
+use Rattle.rows.specs.State.{whole, before}
+use Rattle.rows.specs.Lines.{ends}
+use Rattle.rows.proofs.Lines.{long_text, short_text}
+use Rattle.rows.proofs.read_text.Goals as goal
+
+pub returns-then-text-gt-LONGEST : goal.returns-then-text-gt-LONGEST
+returns-then-text-gt-LONGEST c = let a = c.args in ap (λ t. ends 1 0 (whole t a.heads.now a.triples.now)) c.nothing.ensures ∙ long_text a.size (before a.heads.now a.triples.now) a.text.now c.if-text-gt-LONGEST.true
+
+pub returns : goal.returns
+returns c =
+    let a = c.args in
+    c.read_lines.ensures ∙ short_text a.size (before a.heads.now a.triples.now) a.text.now c.if-text-gt-LONGEST.false
