@@ -103,12 +103,17 @@ triple_in_lem G Q ts q g e t = go (ltb q Q) (ltb g G) (ltb e Q) refl refl t
   where
     go : (a b c : Bool) → ltb q Q ≡ a → ltb e Q ≡ c → T (not (eqb (cond (a && b && c) (get_or ts (triple_cell G Q q g e) 0) absent) absent)) → (q < Q) × (e < Q)
     go true true true x y t = (ltb→lt q Q (rw x tt), ltb→lt e Q (rw y tt))
+    go false b c x y t = elim t [ ]
+    go true false c x y t = elim t [ ]
+    go true true false x y t = elim t [ ]
 
 head_in_lem : (G Q : ℕ) (hs : List ℕ) (q g : ℕ) → T (not (eqb (head_in G Q hs q g) absent)) → q < Q
 head_in_lem G Q hs q g t = go (ltb q Q) (ltb g G) refl t
   where
     go : (a b : Bool) → ltb q Q ≡ a → T (not (eqb (cond (a && b) (get_or hs (head_cell G q g) 0) absent) absent)) → q < Q
     go true true x t = ltb→lt q Q (rw x tt)
+    go false b x t = elim t [ ]
+    go true false x t = elim t [ ]
 
 -- where the cells of a table lie: a row of triples, and all heads of a symbol
 module _ (G Q : ℕ) (few : Q ≤ 8) (g : ℕ) (l : g < G) where

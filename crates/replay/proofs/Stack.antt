@@ -1,6 +1,6 @@
 -- The stack in the lent cells: its depth, stores at or above it, and a rule that replaces its top. Assumes nothing.
 use mathlib.Core.List.{List, [], ◌∷◌}
-use mathlib.Core.Path.{◌≡◌, refl, ap}
+use mathlib.Core.Path.{◌≡◌, refl, ap, subst⁻¹}
 use Prim.Native.Nat.{ℕ, zero, suc, ◌+◌, ◌-◌, ◌<◌, ◌≤◌}
 use native.Mathlib.Numerals.{add-one}
 use native.Mathlib.Omega.{arith}
@@ -27,7 +27,7 @@ module _ (cells : List ℕ) where
       let e : suc d - 1 ≡ d = omega arith in
       record {
         deep = omega arith;
-        stack = rw (e, get_or-set_same cells d g1 0 (omega arith)) ?;
+        stack = subst⁻¹ (λ n. below (set cells n g1) (suc d) ≡ g1 ∷ below cells n) e (rw (get_or-set_same cells d g1 0 (omega arith), below_set cells d d g1 (omega arith)));
         rest = λ k h. rw e (drop-set-lt k cells d g1 (omega arith));
       }
 
@@ -39,14 +39,13 @@ module _ (cells : List ℕ) where
       let under : List ℕ = set cells d g2 in
       record {
         deep = omega arith;
-        stack = rw (
-          e,
+        stack = subst⁻¹ (λ n. below (set (set cells n g2) (suc d) g1) (suc (suc d)) ≡ g1 ∷ g2 ∷ below cells n) e (rw (
           get_or-set_same under (suc d) g1 0 (lt-length-set cells d g2 l),
           get_or-set_other under (suc d) d g1 0 (λ e. omega arith),
           get_or-set_same cells d g2 0 (omega arith),
           below_set under d (suc d) g1 (omega arith),
           below_set cells d d g2 (omega arith),
-        );
+        ));
         rest = λ k h. rw (e, drop-set-lt k under (suc d) g1 (omega arith), drop-set-lt k cells d g2 (omega arith));
       }
 

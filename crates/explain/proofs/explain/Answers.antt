@@ -5,10 +5,14 @@ use Rattle.explain.proofs.Tried.{asked_none, asked_start, asked_ranked}
 use Rattle.explain.proofs.explain.Goals as goal
 
 pub returns-in_default : goal.returns-in_default
-returns-in_default c = asked_none _ _ c.in_default.is
+returns-in_default c =
+    let a = c.args in
+    asked_none (search_in a.m.now a.n a.heads.now a.triples.now) (table_in a.n a.heads.now a.triples.now) c.in_default.is
 
 pub returns-then-k-eq0 : goal.returns-then-k-eq0
-returns-then-k-eq0 c = asked_start _ _ c.in-Of.is c.rank_at-k.ensures c.if-k-eq0.true
+returns-then-k-eq0 c =
+    let a = c.args in
+    asked_start (search_in a.m.now a.n a.heads.now a.triples.now) (table_in a.n a.heads.now a.triples.now) c.in-Of.is c.rank_at-k.ensures c.if-k-eq0.true
 
 pub overflow_sub-k : goal.overflow_sub-k
 overflow_sub-k c = omega arith

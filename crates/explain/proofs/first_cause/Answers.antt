@@ -15,20 +15,6 @@ use Prim.Native.Nat.{ℕ, suc, ◌-◌}
 use native.Mathlib.Omega.{arith}
 use Rattle.explain.proofs.first_cause.Goals as goal
 
--- the tries for what is asked: by rule, move and state; by rule and move; by rule
-module _ (m hs ts : List ℕ) (ask : Ask) where
-  abbrev lows : Fact → Bool
-  lows = below ask.size.symbols ask.size.states hs ts (suc ask.k)
-
-  abbrev tries : (r v x : ℕ) → Option Way
-  tries = tried_at (product_in m) lows (fact_of ask.f)
-
-  abbrev moves : (r v : ℕ) → Option Way
-  moves = way_by_move (product_in m) lows (fact_of ask.f) ask.size.states
-
-  abbrev rules : (moveCount r : ℕ) → Option Way
-  rules moveCount = way_by_rule (product_in m) lows (fact_of ask.f) moveCount ask.size.states
-
 pub found-init : goal.found-init
 found-init c = (omega arith, first_none _)
 

@@ -23,7 +23,7 @@ step-outcome-requires c =
 pub shape_of-stack-in-Blocked : goal.shape_of-stack-in-Blocked
 shape_of-stack-in-Blocked c =
     let a = c.args in
-    c.step-outcome.auto.1.0 ∙ c.loop-k.invariant.long ∙ length-set a.stack.now 0 c.shape-s.result.startsymbol
+    c.step-outcome.auto.stack ∙ c.loop-k.invariant.long ∙ length-set a.stack.now 0 c.shape-s.result.startsymbol
 
 pub returns-in-Blocked : goal.returns-in-Blocked
 returns-in-Blocked c =
@@ -34,12 +34,12 @@ returns-in-Blocked c =
 pub loop-k-preserved-in-Moved : goal.loop-k-preserved-in-Moved
 loop-k-preserved-in-Moved c =
     let a = c.args in
-    turns (model_in a.m.now) a.steps.now c.loop-k.invariant (search rules) c.step-outcome.ensures c.step-outcome.auto.1.0 false c.in-Moved.is
+    turns (model_in a.m.now) a.steps.now c.loop-k.invariant (search rules) c.step-outcome.ensures c.step-outcome.auto.stack false c.in-Moved.is
 
 pub loop-k-preserved : goal.loop-k-preserved
 loop-k-preserved c =
     let a = c.args in
-    turns (model_in a.m.now) a.steps.now c.loop-k.invariant (search rules) c.step-outcome.ensures c.step-outcome.auto.1.0 true c.in-Arrived.is
+    turns (model_in a.m.now) a.steps.now c.loop-k.invariant (search rules) c.step-outcome.ensures c.step-outcome.auto.stack true c.in-Arrived.is
 
 pub shape_of-stack-then-accepting : goal.shape_of-stack-then-accepting
 shape_of-stack-then-accepting c =
