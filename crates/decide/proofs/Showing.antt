@@ -298,6 +298,9 @@ module _ {z : Size} {k : ℕ} {nh₀ hd₀ hs₀ : List ℕ} where
         cut true b true x t = x
         cut false true true x t = refl
         cut false false true x t = refl
+        cut false false false x t = elim t [ ]
+        cut false true false x t = elim t [ ]
+        cut true b false x t = elim t [ ]
 
         at : (g q x : ℕ) → Dec (lowest d ≡ g)
             → (l.done g q x || alone (lowest d) (get_or nh (lowest d) 0) g q x) || (bit (bit_and d (d - 1)) g && mats nh₀ g q x) ≡ mats nh₀ g q x

@@ -196,6 +196,7 @@ heads_are k g d small t = fun_ext at
 
 and_first : (a b : Bool) → T (a && b) → T a
 and_first true b t = tt
+and_first false b t = elim t [ ]
 
 abbrev stamped_of : Sort → (k g d : ℕ) → Table → Table
 stamped_of of_heads = stamped_heads

@@ -93,6 +93,7 @@ module _ {s : Sort} {z : Size} {k : ℕ} {m m' : Entries} {e ts e' ts' e'' ts'' 
 
   not_left : (a b : Bool) → T (not (a || b)) → T (not a)
   not_left false b t = tt
+  not_left true b t = elim t [ ]
 
   pub took_then : Took s z k either e ts (bit_or w w') e'' ts''
   took_then = record {
@@ -199,6 +200,7 @@ module _ (s : Sort) (z : Size) (k g m : ℕ) (small : m < 2 ^ 64) (e ts : List �
         covered : (a b : Bool) → b && not a ≡ false → T b → T a
         covered true b x u = tt
         covered false true x u = subst T x tt
+        covered false false x u = elim u [ ]
 
         nothing : (g' q x : ℕ) → T (alone g m g' q x) → T (mats e g' q x)
         nothing g' q x u =

@@ -9,7 +9,7 @@ pub loop-g-init : goal.loop-g-init
 loop-g-init c = (omega arith, refl, λ d l. absurd (omega arith))
 
 pub triples_of-requires : goal.triples_of-requires
-triples_of-requires c = let both = (omega arith, c.requires.1) in record { g_lt_symbols = both.0; states_bound = both.1.0; states_in_bounds = both.1.1 }
+triples_of-requires c = record { g_lt_symbols = omega arith; states_bound = c.requires.states_bound; states_in_bounds = c.requires.states_in_bounds }
 
 pub loop-g-preserved : goal.loop-g-preserved
 loop-g-preserved c =

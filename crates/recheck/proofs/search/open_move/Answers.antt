@@ -1,4 +1,4 @@
-use mathlib.Core.List.{◌∷◌}
+use mathlib.Core.List.{[], ◌∷◌}
 use mathlib.Core.Path.{refl, sym, ap}
 use Prim.Native.Nat.{◌-◌}
 use Rattle.culprit.proofs.First.{find_more, find_here}
