@@ -26,16 +26,16 @@ pub shape_of-triples : goal.shape_of-triples
 shape_of-triples c = (c.loop-d.invariant _ c.requires refl c.head_count-row.ensures).as_long
 
 pub overflow_mul-triples : goal.overflow_mul-triples
-overflow_mul-triples c = omega (arith, slice-write-triples c, (c.loop-d.invariant _ c.requires refl c.head_count-row.ensures).as_long)
+overflow_mul-triples c = omega (arith, bounds-triples-first c, (c.loop-d.invariant _ c.requires refl c.head_count-row.ensures).as_long)
 
 pub overflow_add-triples : goal.overflow_add-triples
-overflow_add-triples c = omega (arith, slice-write-triples c, (c.loop-d.invariant _ c.requires refl c.head_count-row.ensures).as_long)
+overflow_add-triples c = omega (arith, bounds-triples-first c, (c.loop-d.invariant _ c.requires refl c.head_count-row.ensures).as_long)
 
 pub overflow_add-triples-in-loop-d : goal.overflow_add-triples-in-loop-d
-overflow_add-triples-in-loop-d c = omega (arith, slice-write-triples c, (c.loop-d.invariant _ c.requires refl c.head_count-row.ensures).as_long)
+overflow_add-triples-in-loop-d c = omega (arith, bounds-triples-first c, (c.loop-d.invariant _ c.requires refl c.head_count-row.ensures).as_long)
 
 pub offset_bounds-triples-first : goal.offset_bounds-triples-first
-offset_bounds-triples-first c = omega (arith, slice-write-triples c, (c.loop-d.invariant _ c.requires refl c.head_count-row.ensures).as_long)
+offset_bounds-triples-first c = omega (arith, bounds-triples-first c, (c.loop-d.invariant _ c.requires refl c.head_count-row.ensures).as_long)
 
 pub loop-d-smaller : goal.loop-d-smaller
 loop-d-smaller c = cleared_less c.loop-d.d (omega arith)
