@@ -19,7 +19,7 @@ returns-then-number-ne0 c =
     let a = c.args in
     let m = model_in a.m.now in
     refused_after m a.text.now a.heads.now a.triples.now c.measure-fit.ensures c.if-fit-eq6.false c.if-fit-eq7.false
-    (lines_after m a.text.now a.heads.now a.triples.now c.measure-fit.ensures c.if-fit-eq6.false c.if-fit-eq7.false c.read_text-r.ensures) c.if-number-ne0.true c.IsRefused-as.ensures
+    (lines_after m a.text.now a.heads.now a.triples.now c.measure-fit.ensures c.if-fit-eq6.false c.if-fit-eq7.false c.read_text-r.ensures) c.if-number-ne0.true c.refused_as.ensures
 
 pub copy-requires : goal.copy-requires
 copy-requires c =
@@ -33,8 +33,8 @@ copy-requires-2 c =
     let m = model_in a.m.now in
     record { n_in_bounds = omega (arith, triples_few m a.text.now a.heads.now a.triples.now c.measure-fit.ensures c.if-fit-eq6.false c.if-fit-eq7.false, slice_bounds-copy-end-2 c); n_in_bounds_2 = triples_within m a.text.now a.heads.now a.triples.now c.measure-fit.ensures c.if-fit-eq6.false c.if-fit-eq7.false }
 
-pub returns-then-fit-eq6 : goal.returns
-returns-then-fit-eq6 c =
+pub returns : goal.returns
+returns c =
     let a = c.args in
     let m = model_in a.m.now in
     accepted_after m a.text.now a.heads.now a.triples.now c.measure-fit.ensures c.if-fit-eq6.false c.if-fit-eq7.false

@@ -15,6 +15,6 @@ pub returns-then-n-eq3 : goal.returns-then-n-eq3
 unfolding refused_as
 returns-then-n-eq3 c = search tests
 
-pub returns-then-n-eq1 : goal.returns
+pub returns : goal.returns
 unfolding refused_as
-returns-then-n-eq1 c = search tests
+returns c = search tests

@@ -51,7 +51,7 @@ loop-left-preserved c =
       next_turn t c.read_line-l.ensures c.if-left-e.false (same_refusal s c.take_line-t.ensures) c.if-refusal-ne0.false,
     )
 
-pub returns-then-left-e : goal.returns
-returns-then-left-e c =
+pub returns : goal.returns
+returns c =
     let (d, s, t) = c.loop-left.invariant in
     rw (done t c.loop-left-test.false) (c.finish.ensures d s)

@@ -9,6 +9,6 @@ pub returns-then-text-gt-LONGEST : goal.returns-then-text-gt-LONGEST
 unfolding read_model
 returns-then-text-gt-LONGEST c = refused_read (rw (lt-ltb _ _ c.if-text-gt-LONGEST.true)) (λ m. refl) c.clear.ensures
 
-pub returns-then-text-gt-LONGEST : goal.returns
+pub returns : goal.returns
 unfolding read_model
-returns-then-text-gt-LONGEST c = rw (le-ltb _ _ c.if-text-gt-LONGEST.false) c.read_lines.ensures
+returns c = rw (le-ltb _ _ c.if-text-gt-LONGEST.false) c.read_lines.ensures
