@@ -25,13 +25,13 @@ pub copy-requires : goal.copy-requires
 copy-requires c =
     let a = c.args in
     let m = model_in a.m.now in
-    record { n_in_bounds = omega (arith, heads_few m a.text.now a.heads.now a.triples.now c.measure-fit.ensures c.if-fit-eq6.false c.if-fit-eq7.false, slice_bounds-copy-end c); n_in_bounds_2 = heads_within m a.text.now a.heads.now a.triples.now c.measure-fit.ensures c.if-fit-eq6.false c.if-fit-eq7.false }
+    record { n_in_bounds = omega (arith, heads_few m a.text.now a.heads.now a.triples.now c.measure-fit.ensures c.if-fit-eq6.false c.if-fit-eq7.false); n_in_bounds_2 = heads_within m a.text.now a.heads.now a.triples.now c.measure-fit.ensures c.if-fit-eq6.false c.if-fit-eq7.false }
 
 pub copy-requires-2 : goal.copy-requires-2
 copy-requires-2 c =
     let a = c.args in
     let m = model_in a.m.now in
-    record { n_in_bounds = omega (arith, triples_few m a.text.now a.heads.now a.triples.now c.measure-fit.ensures c.if-fit-eq6.false c.if-fit-eq7.false, slice_bounds-copy-end-2 c); n_in_bounds_2 = triples_within m a.text.now a.heads.now a.triples.now c.measure-fit.ensures c.if-fit-eq6.false c.if-fit-eq7.false }
+    record { n_in_bounds = omega (arith, triples_few m a.text.now a.heads.now a.triples.now c.measure-fit.ensures c.if-fit-eq6.false c.if-fit-eq7.false); n_in_bounds_2 = triples_within m a.text.now a.heads.now a.triples.now c.measure-fit.ensures c.if-fit-eq6.false c.if-fit-eq7.false }
 
 pub returns : goal.returns
 returns c =
