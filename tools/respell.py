@@ -18,7 +18,7 @@ DEFINED = re.compile(r"^(\s*)((?:(?:abbrev|unfoldable|data|record|pub|ruleset)\s
 # Names that would fall together with another one in a file: what they are called instead.
 LEMMAS = (
     "head-count triple-count place-of class-of symbol-of class-steps states-after size-of read-text listing-of model-part next-kept rule-closed"
-    " heads-left triples-left bit-and bit-or bit-xor both-pass class-at first-has rules-in line-of symbols-in rule-line triple-in product-in"
+    " heads-left triples-left bit-and bit-or bit-xor both-pass class-at first-has line-of symbols-in rule-line triple-in product-in"
     " violation-bytes fault-of step-of safe-behind with-move steps-of head-cell"
 )
 APART = {"byRule": "way_by_rule", "byMove": "way_by_move", "byRank": "way_by_rank"}

@@ -90,7 +90,7 @@ module _ (m : Model) (t : T (valid m)) where
   product_in_lem = record {
     state_in = in_up_to m.states m.startstate (ltb→lt m.startstate m.states (and_left (ltb m.startstate m.states) (ltb m.startsymbol m.symbols) started));
     symbol_in = ltb→lt m.startsymbol m.symbols (and_right (ltb m.startstate m.states) (ltb m.startsymbol m.symbols) started);
-    rules_in_lem = λ r l.
+    rules_in = λ r l.
         let k : Bool = leb (in_row 4 m.rulerows r 0) 2 in
         let gs : List ℕ = symbol (rule m r) ∷ pushed (rule m r) in
         All-of (λ g. g < m.symbols) (λ g. ltb g m.symbols) (λ g x. ltb→lt g m.symbols x) gs (and_right k (symbols_in m.symbols (rule m r)) (valid_rule r l));

@@ -53,6 +53,6 @@ rule_of p s = p.rule s.by_rule
 pub record InRange (p : Product) : Type 0 where
   pub state_in : p.start_state ∈ p.states
   pub symbol_in : p.start_symbol < p.symbols
-  pub rules_in_lem : (r : ℕ) → r < p.rules → (symbol (p.rule r) < p.symbols) × All (λ g. g < p.symbols) (pushed (p.rule r))
+  pub rules_in : (r : ℕ) → r < p.rules → (symbol (p.rule r) < p.symbols) × All (λ g. g < p.symbols) (pushed (p.rule r))
   pub steps_in : (s : Step) (q q' : ℕ) → p.next s q ≡ some q'
       → (s.by_rule < p.rules) × (s.by_move < p.moves) × (q ∈ p.states) × (q' ∈ p.states)

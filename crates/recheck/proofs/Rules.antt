@@ -88,12 +88,12 @@ module _ (m : Model) (v : T (valid m)) (heads triples : List ℕ) where
       -- rule r by the matrix of its class
       exactly : T (closed_by m tg ts hs r) → (q q' : ℕ) → T (mat mine q q') → T (rule_kept m.states t q q' (rule m r))
       unfolding closed_by
-      exactly = let (i, j) = (product_in_lem m v).rules_in_lem r l in
+      exactly = let (i, j) = (product_in_lem m v).rules_in r l in
           (closed_exactly m.symbols m.states t ts hs has mine (steps_lt m (class_of m r)) (rule m r) i j).0
 
       exactly_back : ((q q' : ℕ) → T (mat mine q q') → T (rule_kept m.states t q q' (rule m r))) → T (closed_by m tg ts hs r)
       unfolding closed_by
-      exactly_back = let (i, j) = (product_in_lem m v).rules_in_lem r l in
+      exactly_back = let (i, j) = (product_in_lem m v).rules_in r l in
           (closed_exactly m.symbols m.states t ts hs has mine (steps_lt m (class_of m r)) (rule m r) i j).1
 
       by_class : (q q' : ℕ) → mats tg (class_of m r) q q' ≡ mats tg (symbol (rule m r)) q q'

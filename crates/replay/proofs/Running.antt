@@ -76,7 +76,7 @@ ready m t cells depth l =
     let z : Sizes m = valid_sizes m t in
     let i : InRange (product_of m) = product_in_lem m t in
     record {
-      symbols = λ s q q' h. All-map (λ g. g < m.symbols) (λ g. g < 256) (λ g h. omega arith) (pushed (rule m s.by_rule)) (i.rules_in_lem s.by_rule (i.steps_in s q q' h).0).1;
+      symbols = λ s q q' h. All-map (λ g. g < m.symbols) (λ g. g < 256) (λ g h. omega arith) (pushed (rule m s.by_rule)) (i.rules_in s.by_rule (i.steps_in s q q' h).0).1;
       room = l;
     }
 

@@ -134,7 +134,7 @@ module _ (m : Model) (valid-m : T (valid m)) where
         let (f, y) = next_is m (named r v) q q' e in
         subst (λ q. T (mats tg (symbol (rule m r)) q q')) f.here
         (subst (λ q'. T (mats tg (symbol (rule m r)) (move m v).source q')) y
-        (is_entry (symbol (rule m r)) v ((product_in_lem m valid-m).rules_in_lem r there).0 f.move_there f.seen))
+        (is_entry (symbol (rule m r)) v ((product_in_lem m valid-m).rules_in r there).0 f.move_there f.seen))
 
     pub entry_step : (q q' : ℕ) → T (mats tg (symbol (rule m r)) q q') → (v : ℕ) × (v < m.moves) × ((product_of m).next (named r v) q ≡ some q')
     entry_step q q' t =

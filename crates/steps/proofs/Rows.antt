@@ -85,13 +85,13 @@ module _ (m : Model) (v : T (valid m)) {cells : List ℕ} (same : LiesIn cells m
       ∙ ap₂ (λ k g. rule_by k g (in_row 4 m.rulerows r 2) (in_row 4 m.rulerows r 3)) (sym (same.kind_in r (few r l))) (sym (same.class_in r (few r l)))
 
   pushed_in : (r : ℕ) → r < m.rules → All (λ g. g < 32) (pushed (rule m r))
-  pushed_in r l = All-map (λ g. g < m.symbols) (λ g. g < 32) (λ g h. omega (arith, h, (valid_sizes m v).symbols)) (pushed (rule m r)) ((product_in_lem m v).rules_in_lem r l).1
+  pushed_in r l = All-map (λ g. g < m.symbols) (λ g. g < 32) (λ g h. omega (arith, h, (valid_sizes m v).symbols)) (pushed (rule m r)) ((product_in_lem m v).rules_in r l).1
 
   pub symbol_is : (r : ℕ) → r < m.rules → symbol (rule m r) ≡ class_at cells r
   symbol_is r l = ap symbol (raw_is r l) ∙ symbol_of_lem (kind_at cells r) (class_at cells r) (in_row 4 m.rulerows r 2) (in_row 4 m.rulerows r 3)
 
   pub class_lt : (r : ℕ) → r < m.rules → class_at cells r < 32
-  class_lt r l = let h = subst (λ g. g < m.symbols) (symbol_is r l) ((product_in_lem m v).rules_in_lem r l).0 in omega (arith, h, (valid_sizes m v).symbols)
+  class_lt r l = let h = subst (λ g. g < m.symbols) (symbol_is r l) ((product_in_lem m v).rules_in r l).0 in omega (arith, h, (valid_sizes m v).symbols)
 
   -- the rule of a number
   pub row_lent : (r : ℕ) → r < m.rules → rule m r ≡ row_rule cells r

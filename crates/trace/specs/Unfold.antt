@@ -14,7 +14,7 @@ use Rattle.culprit.specs.declared.Goal.TheVariants.{Nothing, Of}
 
 -- the numbers of rules and moves can be stored, and the place is one of the room
 pub record Storable (rules moves at room : ℕ) : Type 0 where
-  pub rules_in_lem : rules ≤ 256
+  pub rules_in : rules ≤ 256
   pub moves_in : moves ≤ 128
   pub place_in : at ≤ room + 1
 

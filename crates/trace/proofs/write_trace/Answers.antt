@@ -9,7 +9,7 @@ use Rattle.trace.proofs.write_trace.Goals as goal
 pub unfold_fact-at-requires : goal.unfold_fact-at-requires
 unfold_fact-at-requires c =
     let z = valid_sizes _ c.requires.ranked.valid_model in
-    record { rules_in_lem = z.rules; moves_in = z.moves; place_in = omega arith }
+    record { rules_in = z.rules; moves_in = z.moves; place_in = omega arith }
 
 pub returns-then-room-at : goal.returns-then-room-at
 unfolding model_in
