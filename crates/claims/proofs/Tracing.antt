@@ -63,6 +63,7 @@ sets_full [] xs h = none_there xs 0
     none_there [] i = refl
     none_there (x ∷ xs) i = none_there xs (suc i)
 sets_full (y ∷ l) (x ∷ xs) h = sets_past l 0 x x xs ∙ ap (λ l. x ∷ l) (sets_full l xs (omega arith))
+sets_full (y ∷ l) [] h = elim h [ ]
 
 -- the trace of a violation comes only from a verdict of the decision
 module _ (m : Model) (room : ℕ) where
