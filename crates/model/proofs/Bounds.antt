@@ -5,7 +5,6 @@ use mathlib.Core.Path.{◌≡◌, refl, sym, ◌∙◌, subst}
 use Prim.Native.Nat.{ℕ, ◌*◌, ◌<◌, ◌≤◌}
 use native.Mathlib.Nat.{mul-le-mul_left, mul-le-mul_right, le_trans}
 use lib.Dec.{T}
-use Rattle.product.specs.Product as product
 use Rattle.product.specs.Product.{Step}
 use Rattle.product.proofs.Lists.{up_to_lt}
 use Rattle.model.specs.declared.Model.{Model}

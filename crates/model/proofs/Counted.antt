@@ -1,12 +1,11 @@
 -- What a test that was made says of the test that is meant, also of every number below a count, as a loop makes it. Assumes nothing.
-use mathlib.Core.Bool.{Bool, true, false, not}
+use mathlib.Core.Bool.{Bool, true, false}
 use mathlib.Core.List.{[], ◌∷◌}
 use mathlib.Core.Path.{◌≡◌, sym, ◌∙◌, subst}
 use Prim.Native.Nat.{ℕ, ◌+◌, ◌<◌, ◌≤◌}
 use native.Mathlib.Numerals.{add-one}
 use native.Mathlib.Omega.{arith}
 use lib.Dec.{T}
-use borrow.Author.Tests.{not-true, not-false}
 use Rattle.product.specs.Lists.{up_to, all}
 use Rattle.product.proofs.Lists.{all_append, same_truth}
 use Rattle.model.proofs.Valid.{all_below}

@@ -1,10 +1,10 @@
 -- A step of a model's product is what the document says it is. Assumes nothing.
-use mathlib.Core.Bool.{Bool, true, false, cond, ◌&&◌}
+use mathlib.Core.Bool.{Bool, true, false, cond}
 use mathlib.Core.List.{List, ◌∷◌, ◌++◌}
 use mathlib.Core.Logic.{◌↔◌}
 use mathlib.Core.Option.{none, some}
 use mathlib.Core.Path.{◌≡◌, refl, sym, ap, ◌∙◌, subst}
-use Prim.Native.Nat.{ℕ, ◌<◌}
+use Prim.Native.Nat.{ℕ}
 use lib.Dec.{T, eqb, ltb, eqb→eq, ltb→lt}
 use borrow.Author.Tests.{lt-ltb, eq-eqb}
 use Rattle.product.specs.Product.{symbol, pushed, Step}
@@ -63,4 +63,4 @@ module _ (m : Model) (s : Step) where
       from (q, g ∷ w) d (h, e) =
           subst (λ g. step (product_of m) s (q, g ∷ w) ≡ some d) h.top
           (step_of_lem (product_of m) s q (move m s.by_move).target w (fits_next q g h) ∙ ap some (sym e))
-      from (q , mathlib.Core.List.[]) d x3 = elim x3 [ ]
+      from (q, mathlib.Core.List.[]) d x3 = elim x3 [ ]

@@ -1,7 +1,6 @@
 // The model record: what a model text says, as numbers. specs/Model.antt says which product it means.
 #![tactic(auto)]
 
-
 // Counts, the start, and arrays by number. A row of `rulerows` is a rule: its kind (0 exit, 1 direct, 2 call), its symbol, and the
 // one or two symbols that it pushes, the top first. A row of `moverows` is a move: state, event, state. `shows` has symbol·16 + event.
 #[derive(Drop)]

@@ -2,7 +2,7 @@
 use mathlib.Core.List.{List}
 use mathlib.Core.Logic.{◌↔◌}
 use mathlib.Core.Option.{some}
-use mathlib.Core.Path.{◌≡◌, ap, subst⁻¹}
+use mathlib.Core.Path.{◌≡◌, subst⁻¹}
 use Prim.Native.Nat.{ℕ, ◌<◌, ◌≤◌, ◌+◌, ◌*◌}
 use native.Mathlib.Nat.{mul-le-mul}
 use native.Mathlib.Omega.{arith}
@@ -11,8 +11,8 @@ use lib.Dec.{T}
 use lib.ListN.{length}
 use Rattle.product.specs.Product.{Product, Step, stored, loaded, InRange}
 use Rattle.product.specs.Runs.{State, Reaches}
-use Rattle.product.specs.Verdict.{Verdict, violation, safe, rounds, IsVerdict, answer, ran, bound}
-use Rattle.product.specs.Table.{present, ranks, left}
+use Rattle.product.specs.Verdict.{Verdict, violation, safe, IsVerdict, answer, bound}
+use Rattle.product.specs.Table.{left}
 use Rattle.product.specs.Trace.{trace_of}
 use Rattle.product.specs.Check.{accepts}
 use Rattle.product.specs.Demands.{Violates, Demands}

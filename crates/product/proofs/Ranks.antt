@@ -1,10 +1,10 @@
 -- The table after round n has the ranks up to n, and marks every other fact absent. Assumes nothing.
-use mathlib.Core.Bool.{Bool, true, false, cond, not}
+use mathlib.Core.Bool.{Bool, true, false, cond}
 use mathlib.Core.Path.{◌≡◌, refl, fun_ext}
 use Prim.Native.Nat.{ℕ, zero, suc, ◌<◌, ◌≤◌, zero-le}
 use native.Mathlib.Omega.{arith}
 use native.Mathlib.Decide.{dec_lt}
-use lib.Dec.{T, eqb}
+use lib.Dec.{T}
 use borrow.Author.Tests.{ne_eqb}
 use Rattle.product.specs.Product.{Product}
 use Rattle.product.specs.Facts.{Fact, same, first}

@@ -1,4 +1,3 @@
-use Prim.Native.Nat.{◌-◌}
 use mathlib.Core.Path.{sym, ◌∙◌}
 use Rattle.text.proofs.Bytes.{same_next, same_not, same_short, same_long, same_end}
 use native.Mathlib.Omega.{arith}
