@@ -1,13 +1,13 @@
 -- What the operations of a word do to its bits. Assumes nothing.
-use mathlib.Core.Bool.{Bool, true, false, not, cond, ◌&&◌, ◌||◌}
+use mathlib.Core.Bool.{Bool, true, false, not, ◌&&◌, ◌||◌}
 use mathlib.Core.Path.{◌≡◌, refl, sym, ap, ap₂, ◌∙◌, subst}
 use Prim.Native.Nat.{ℕ, zero, suc, ◌+◌, ◌-◌, ◌*◌, ◌/◌, ◌%◌, ◌^◌, ◌≤◌, ◌<◌}
-use native.Mathlib.Nat.{mod-lt, zero-lt-suc, pow-suc, mul_comm, add-suc, add-zero, zero-add, add_comm, div-one, div-add-mod'}
+use native.Mathlib.Nat.{mod-lt, zero-lt-suc, add-suc, add-zero, add_comm, div-one, div-add-mod'}
 use native.Mathlib.Omega.{arith}
 use native.Mathlib.Numerals.{add-one}
 use lib.Dec.{T, eqb, lit<}
 use lib.Arith.{digits_div, digits_mod, lt-one}
-use lib.Pow.{pow_pos, pow-add, high, low, shr-shr, shr_lt, field, mod-mod-pow, ones_split}
+use lib.Pow.{pow_pos, high, low, shr-shr, shr_lt, field, mod-mod-pow, ones_split}
 use lib.Bits.{bit_and, bit_or, bit_xor, and_shr, and_mod, or_shr, or_mod, xor_shr, xor_mod}
 use Rattle.bits.specs.Bit.{odd, bit}
 

@@ -1,10 +1,10 @@
 -- The lowest set bit, and a number without it. Assumes nothing.
 use mathlib.Core.Bool.{Bool, true, false, not, ◌&&◌}
-use mathlib.Core.Path.{◌≡◌, refl, sym, ap, ap₂, ◌∙◌, subst}
-use Prim.Native.Nat.{ℕ, zero, suc, ◌+◌, ◌-◌, ◌*◌, ◌/◌, ◌%◌, ◌^◌, ◌≤◌, ◌<◌}
-use native.Mathlib.Nat.{mod-lt, div-add-mod', le_of_suc-le-suc}
+use mathlib.Core.Path.{◌≡◌, refl, ap, ◌∙◌}
+use Prim.Native.Nat.{ℕ, zero, suc, ◌+◌, ◌-◌, ◌*◌, ◌/◌, ◌%◌, ◌^◌, ◌<◌}
+use native.Mathlib.Nat.{mod-lt, div-add-mod'}
 use native.Mathlib.Omega.{arith}
-use lib.Dec.{T, eqb, eqb-suc-suc, eqb-zero-suc, eqb-suc-zero}
+use lib.Dec.{T, eqb, eqb-suc-suc, eqb-suc-zero}
 use lib.Arith.{lt-one, digits_div, digits_mod}
 use lib.Count.{count_trailing_zeros, under}
 use lib.Bits.{bit_and, and_le_r}

@@ -7,14 +7,11 @@ use Rattle.text.specs.Put.{Put}
 use Rattle.ranking.specs.Rank.{Ranked}
 use Rattle.modelline.specs.declared.Line.{Line}
 use Rattle.draft.specs.declared.Outline.{Outline}
-use Rattle.draft.specs.declared.Noted.{Noted}
 use Rattle.draft.specs.Written.{Notes}
-use Rattle.steps.specs.declared.Row.{Row}
 use Rattle.steps.specs.Rows.{RowAt}
 use Rattle.rows.specs.declared.Tally.{Tally}
 use Rattle.rows.specs.declared.End.{End}
 use Rattle.rows.specs.State.{Ended}
-use Rattle.refusal.specs.declared.Seen.{Seen}
 use Rattle.refusal.specs.Refusal.{Seeing}
 use Rattle.claims.specs.OneAnswer.{One, Both, OneAnswer}
 

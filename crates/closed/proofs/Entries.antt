@@ -11,9 +11,9 @@ use borrow.Author.Tests.{eq-eqb}
 use Rattle.product.proofs.Lists.{and_left, and_right, both, or_left, same_truth}
 use Rattle.bits.specs.Bit.{bit}
 use Rattle.bits.specs.Matrix.{entry, mat, multiplied, passed, image}
-use Rattle.bits.proofs.Bit.{bit_or_lem, bit_past, bit_zero, bit_ext}
+use Rattle.bits.proofs.Bit.{bit_or_lem, bit_past}
 use Rattle.bits.proofs.Image.{image_at}
-use Rattle.bits.proofs.Matrix.{multiplied_at, product_lt}
+use Rattle.bits.proofs.Matrix.{multiplied_at}
 use Rattle.bits.proofs.Some.{some_of, of_some}
 use Rattle.steps.proofs.Words.{same_bits}
 use Rattle.closed.specs.Closed.{included}

@@ -11,7 +11,7 @@ use lib.Dec.{T, T_not, eqb, eqb→eq, eqb_refl}
 use lib.ListN.{length}
 use Rattle.product.specs.Lists.{◌∈◌}
 use Rattle.product.specs.Product.{Product}
-use Rattle.product.specs.Facts.{head, triple, first}
+use Rattle.product.specs.Facts.{head, triple}
 use Rattle.product.specs.Rounds.{grown, held}
 use Rattle.product.specs.Table.{ranks}
 use Rattle.product.specs.Verdict.{violated, adds, Verdict, violation, safe, rounds, GoesOn, ran, answer}

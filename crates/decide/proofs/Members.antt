@@ -17,7 +17,6 @@ use Rattle.product.specs.Lists.{any, up_to}
 use Rattle.product.proofs.Lists
 use Rattle.product.proofs.Lists.{and_left, and_right, both, or_left, or_right, or_cases, any_of, same_truth, in_up_to, up_to_lt}
 use Rattle.bits.specs.Bit.{bit}
-use Rattle.bits.specs.Matrix.{some}
 use Rattle.bits.proofs.Bit.{bit_or_lem, bit_zero}
 use Rattle.bits.proofs.Set.{bit_set}
 use Rattle.bits.proofs.Lowest.{lowest, lowest_set, cleared, cleared_less}

@@ -11,7 +11,6 @@ use Rattle.product.specs.Product.{Rule, exit, direct, call, symbol, Product, InR
 use Rattle.product.specs.Facts.{Fact, head, triple, same, first}
 use Rattle.product.specs.Rounds.{held}
 use Rattle.product.specs.Table.{ranks}
-use Rattle.product.proofs.Lists
 use Rattle.product.proofs.Lists.{and_left, and_right, both, or_left, or_right, or_cases, same_truth, in_up_to, up_to_lt}
 use Rattle.product.proofs.Rounds.{grown_later}
 use mathlib.Core.Logic.{◌⊎◌, inl, inr}

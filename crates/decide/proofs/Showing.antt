@@ -16,9 +16,7 @@ use Rattle.product.proofs.Lists.{and_left, and_right, or_cases}
 use Rattle.table.specs.declared.Size.{Size}
 use Rattle.bits.specs.Bit.{bit}
 use Rattle.lent.specs.Lending.{model_in}
-use Rattle.lent.proofs.Parts.{in_part}
 use Rattle.steps.specs.Steps.{class_of, symbol_of, states_after}
-use Rattle.steps.proofs.Built.{class_row}
 use Rattle.bits.specs.Matrix.{mat, mats, some, passed, image}
 use Rattle.bits.proofs.Bit.{bit_or_lem, bit_zero}
 use Rattle.bits.proofs.Set.{bit_pow, one_shifted}

@@ -11,7 +11,7 @@ use lib.Dec.{T, eqb, ltb}
 use borrow.Author.Tests.{eqb-true, eqb-false, eq-eqb, ne_eqb, ltb-true, ltb-false, lt-ltb}
 use lib.ListN.{length, drop, set}
 use lib.Bits.{bit_and}
-use Rattle.product.specs.Facts.{Fact, head, triple, same}
+use Rattle.product.specs.Facts.{Fact, head, triple}
 use Rattle.product.specs.Table.{Table}
 use Rattle.table.specs.declared.Size.{Size}
 use Rattle.table.specs.Cells.{store, triple_cell, put_head, put_triple}

@@ -1,7 +1,7 @@
 -- Round 0 of a valid model stands, with the rules for the first round; and what the rounds leave is what was promised. Assumes nothing.
-use mathlib.Core.Bool.{Bool, true, false, ◌&&◌, ◌||◌}
+use mathlib.Core.Bool.{Bool, true, false, ◌&&◌}
 use mathlib.Core.List.{List, ◌++◌}
-use mathlib.Core.Logic.{◌⊎◌, ⊎_elim}
+use mathlib.Core.Logic.{⊎_elim}
 use mathlib.Core.Path.{◌≡◌, refl, sym, ap, ap₂, ◌∙◌, subst, subst⁻¹, fun_ext}
 use Prim.Native.Nat.{ℕ, zero, suc, ◌+◌, ◌*◌, ◌%◌, ◌^◌, ◌<◌, ◌≤◌}
 use native.Mathlib.Nat.{zero-add}
@@ -11,11 +11,10 @@ use lib.Dec.{T, eqb, ltb, eqb→eq, ltb→lt}
 use lib.ListN.{length, length-set, drop, get_or, set}
 use lib.Seq.{get_or-set_same, get_or-set_other}
 use borrow.Author.Tests.{eq-eqb, ne_eqb, lt-ltb}
-use Rattle.product.specs.Product.{Rule, exit, direct, call, symbol}
-use Rattle.product.specs.Facts.{Fact, head, triple, same, first}
+use Rattle.product.specs.Product.{Rule, exit, direct, call}
+use Rattle.product.specs.Facts.{Fact, head, triple, first}
 use Rattle.product.specs.Rounds.{grown}
 use Rattle.product.specs.Table.{absent, ranks, left}
-use Rattle.product.specs.Verdict as product
 use Rattle.product.proofs.Lists.{and_left, and_right, both}
 use Rattle.relations.specs.Quiet.{FirstT, FirstH}
 use Rattle.relations.proofs.Quiet.{enough_first}

@@ -1,7 +1,7 @@
 -- The arrays that a product is held in: its rules in rows, and for each class the matrix of its steps. What serves the decision's own functions. Assumes nothing.
-use Rattle.std.specs.Prelude.{List, ◌≡◌, ℕ, zero, suc, ◌<◌, ◌≤◌, T}
+use Rattle.std.specs.Prelude.{List, ◌≡◌, ℕ, ◌<◌, ◌≤◌, T}
 use Rattle.product.specs.Lists.{up_to}
-use Rattle.product.specs.Product.{Rule, exit, direct, call, Product}
+use Rattle.product.specs.Product.{Product}
 use Rattle.bits.specs.Matrix.{mats}
 use Rattle.relations.specs.Relations.{steps}
 use Rattle.steps.specs.Rows.{class_at, row_rule}

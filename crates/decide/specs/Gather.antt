@@ -1,5 +1,5 @@
 -- What is run after the steps of the rules of a set, gathered by class. What serves the decision's own functions. Assumes nothing.
-use Rattle.std.specs.Prelude.{false, cond, ◌&&◌, ◌||◌, List, ◌≡◌, ℕ, ◌+◌, ◌*◌, ◌%◌, ◌<◌, eqb, length, get_or, replicate}
+use Rattle.std.specs.Prelude.{false, cond, ◌&&◌, ◌||◌, List, ◌≡◌, ℕ, eqb, length, get_or, replicate}
 use Rattle.bits.specs.Matrix.{mat, mats, multiplied}
 use Rattle.steps.specs.Rows.{kind_at, class_at, over_at, under_at}
 use Rattle.decide.specs.Sets.{chosen, among}

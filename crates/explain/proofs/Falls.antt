@@ -10,7 +10,6 @@ use Rattle.product.specs.Product.{Rule, exit, direct, call, Step, Product}
 use Rattle.product.specs.Facts.{Fact, head, triple, Way, needs, same}
 use Rattle.product.specs.Rounds.{works}
 use Rattle.product.specs.Table.{Table}
-use Rattle.product.specs.Trace.{trace}
 use Rattle.product.proofs.Lists.{and_right, All-of, All-left, All-right, All-at}
 use Rattle.table.specs.Places.{fact_of}
 use Rattle.table.proofs.Places.{fact_back}

@@ -1,12 +1,11 @@
 -- A listing looks at the cells of the table alone. Assumes nothing.
 use mathlib.Core.List.{List, [], ◌∷◌, ◌++◌}
-use mathlib.Core.Path.{◌≡◌, ap, sym, ◌∙◌}
+use mathlib.Core.Path.{◌≡◌, ap}
 use Prim.Native.Nat.{ℕ, ◌*◌, ◌<◌}
 use native.Mathlib.Omega.{arith}
 use lib.Dec.{eqb}
 use lib.ListN.{length, get_or, get_or-append}
 use Rattle.text.specs.Split.{pick}
-use Rattle.product.specs.Lists.{up_to, over}
 use Rattle.product.specs.Table.{absent}
 use Rattle.product.proofs.Lists.{over_alike}
 use Rattle.printing.specs.declared.Kind.{Kind}

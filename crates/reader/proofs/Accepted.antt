@@ -24,7 +24,7 @@ use Rattle.reader.specs.declared.Reading.TheVariants.{Accepted, TooLong, Malform
 use Rattle.reader.specs.Reading.{meaning, empty, model_of, Read}
 use Rattle.draft.specs.Lines.{take_line}
 use Rattle.reader.specs.Text.{fresh, finished, read_from, read_model}
-use Rattle.reader.specs.Says.{Said, nothing, and_line, gathered, said, Says}
+use Rattle.reader.specs.Says.{Said, and_line, gathered, said, Says}
 use Rattle.reader.proofs.Good.{Good}
 use Rattle.reader.proofs.Steps.{Held, line_kept}
 use Rattle.reader.proofs.Leaves.{sized_empty}

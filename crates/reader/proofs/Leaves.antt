@@ -1,12 +1,12 @@
 -- What a reading leaves, by how it ends; and the bytes that stand for what was read so far. Assumes nothing.
-use mathlib.Core.Bool.{Bool, true, false}
+use mathlib.Core.Bool.{false}
 use mathlib.Core.List.{List, [], ◌∷◌}
 use mathlib.Core.Path.{◌≡◌, refl, sym, ap, ◌∙◌, subst⁻¹}
 use Prim.Native.Nat.{ℕ, ◌≤◌}
-use lib.ListN.{length, replicate, length-replicate}
+use lib.ListN.{replicate, length-replicate}
 use lib.Seq.{sets}
 use borrow.Author.Tests.{eq-eqb, ne_eqb}
-use Rattle.product.specs.Answer.{Answer, answered, refused}
+use Rattle.product.specs.Answer.{Answer, refused}
 use Rattle.model.specs.declared.Model.{Model}
 use Rattle.lent.specs.Lending.{bytes_of, laid, packed, Sized}
 use Rattle.lent.proofs.Packed.{last_put}
@@ -18,8 +18,8 @@ use Rattle.draft.specs.declared.Noted.{Noted}
 use Rattle.draft.specs.Draft.{Draft}
 use Rattle.draft.specs.Written.{Notes, Stands}
 use Rattle.reader.specs.declared.Reading.{Reading}
-use Rattle.reader.specs.declared.Reading.TheVariants.{Accepted, TooLong, Malformed, Misplaced}
-use Rattle.reader.specs.Reading.{meaning, empty, model_of, Read}
+use Rattle.reader.specs.declared.Reading.TheVariants.{Accepted, Misplaced}
+use Rattle.reader.specs.Reading.{meaning, empty, Read}
 use Rattle.reader.specs.Text.{no_outline, last_of, fresh, finished}
 
 -- the empty record has its room, and is all zeros

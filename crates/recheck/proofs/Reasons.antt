@@ -4,7 +4,6 @@ use mathlib.Core.List.{List}
 use mathlib.Core.Path.{◌≡◌, refl, sym, ap, ap₂, ◌∙◌}
 use Prim.Native.Nat.{ℕ}
 use lib.ListN.{length}
-use borrow.Author.Tests.{not-true, not-false}
 use Rattle.product.specs.Lists.{find}
 use Rattle.product.specs.Product.{Product}
 use Rattle.product.specs.Facts.{Fact, head, first, pairs}

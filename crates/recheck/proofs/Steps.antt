@@ -2,8 +2,8 @@
 use mathlib.Core.Bool.{Bool, not}
 use mathlib.Core.Option.{Option, none, some}
 use mathlib.Core.Path.{◌≡◌, refl, ap, ◌∙◌}
-use Prim.Native.Nat.{ℕ, ◌<◌}
-use Rattle.product.specs.Lists.{up_to, over, each, all, find, ◌∈◌}
+use Prim.Native.Nat.{ℕ}
+use Rattle.product.specs.Lists.{up_to, over, each, all, find}
 use Rattle.product.specs.Product.{Step, rule_of}
 use Rattle.product.specs.Facts.{Fact, ways_to, pairs}
 use Rattle.product.specs.Check.{keeps, closed_at}

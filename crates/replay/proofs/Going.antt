@@ -1,11 +1,10 @@
 -- Whether a stored step goes from a state with a symbol on top, as the code tests it. Assumes nothing.
-use mathlib.Core.Bool.{Bool, true, false, not, cond}
+use mathlib.Core.Bool.{Bool, true, false, cond}
 use mathlib.Core.List.{List, ◌∷◌}
 use mathlib.Core.Option.{Option, none, some}
 use mathlib.Core.Path.{◌≡◌, refl, sym, ap, ◌∙◌}
 use Prim.Native.Nat.{ℕ}
 use lib.Dec.{eqb}
-use borrow.Author.Tests.{not-true, not-false}
 use Rattle.product.specs.Product.{Product, symbol, Step, rule_of}
 use Rattle.product.specs.Runs.{replaced, step}
 use Rattle.product.proofs.Closed.{none_some}

@@ -5,10 +5,8 @@ use mathlib.Core.Path.{◌≡◌, ap, ap₂, sym, ◌∙◌}
 use Prim.Native.Nat.{ℕ, ◌<◌}
 use native.Mathlib.Omega.{arith}
 use lib.ListN.{length, replicate}
-use lib.Dec.{T}
 use Rattle.product.specs.Answer.{refused}
 use Rattle.model.specs.declared.Model.{Model}
-use Rattle.model.specs.Valid.{valid}
 use Rattle.lent.specs.Lending.{model_in}
 use Rattle.reader.specs.Text.{read_model}
 use Rattle.refusal.specs.declared.Seen.{Seen}

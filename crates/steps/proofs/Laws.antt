@@ -4,7 +4,7 @@ use mathlib.Core.List.{List}
 use mathlib.Core.Logic.{◌↔◌}
 use mathlib.Core.Option.{some}
 use mathlib.Core.Path.{◌≡◌, refl, ap, ◌∙◌, subst, subst⁻¹}
-use Prim.Native.Nat.{ℕ, ◌+◌, ◌*◌, ◌%◌, ◌^◌, ◌<◌, min}
+use Prim.Native.Nat.{ℕ, ◌+◌, ◌*◌, ◌^◌, ◌<◌, min}
 use native.Mathlib.Decide.{dec_lt}
 use native.Mathlib.Nat.{zero-add}
 use native.Mathlib.Omega.{arith}

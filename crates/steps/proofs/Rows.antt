@@ -19,8 +19,7 @@ use Rattle.model.specs.Valid.{valid}
 use Rattle.model.proofs.Valid.{valid_sizes, product_in_lem}
 use Rattle.lent.specs.Lending.{part, of_lent, model_in}
 use Rattle.lent.proofs.Parts.{in_part}
-use Rattle.steps.specs.declared.Row.{Row}
-use Rattle.steps.specs.Steps.{class_of, symbol_of}
+use Rattle.steps.specs.Steps.{class_of}
 use Rattle.steps.specs.Rows.{kind_at, class_at, over_at, under_at, RowAt, rule_by, row_rule}
 use Rattle.steps.proofs.Built.{class_past, class_row}
 use Rattle.steps.proofs.Laws.{symbol_same}

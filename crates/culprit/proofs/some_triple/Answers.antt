@@ -1,6 +1,5 @@
 use Rattle.lent.specs.Lending.{product_in}
 use mathlib.Core.Path.{sym, ap}
-use Prim.Native.Nat.{◌-◌}
 use Rattle.product.specs.Facts.{triple}
 use Rattle.culprit.specs.Culprit.{goal_as, guilty}
 use Rattle.culprit.proofs.First.{first_none, first_done}

@@ -1,6 +1,5 @@
 -- `decide::run` meets its contract: the start of the rounds, and what they leave. Assumes nothing.
 use mathlib.Core.Path.{sym, ◌∙◌}
-use borrow.Author.Rules.{rules}
 use Rattle.model.proofs.Valid.{valid_sizes}
 use Rattle.lent.specs.Lending.{of_lent, model_in}
 use Rattle.decide.proofs.Emptied.{empty_first}

@@ -1,17 +1,11 @@
-use borrow.Author.Rules.{rules}
 use Rattle.lent.specs.Lending.{product_in}
 use Rattle.table.specs.Places.{fact_of}
-use Rattle.product.specs.Facts.{Fact, Way}
-use Rattle.explain.specs.declared.Ask.{Ask}
-use Rattle.explain.specs.Search.{below, tried_at, way_by_move, way_by_rule}
+use Rattle.explain.specs.Search.{below}
 use Rattle.explain.specs.Answers.{found_as}
 use Rattle.culprit.proofs.First.{first_none, first_more, first_done}
 use Rattle.explain.proofs.Tried.{found_none, search_here}
-use mathlib.Core.Bool.{Bool}
-use mathlib.Core.List.{List}
-use mathlib.Core.Option.{Option}
 use mathlib.Core.Path.{sym, ap}
-use Prim.Native.Nat.{ℕ, suc, ◌-◌}
+use Prim.Native.Nat.{suc}
 use native.Mathlib.Omega.{arith}
 use Rattle.explain.proofs.first_cause.Goals as goal
 

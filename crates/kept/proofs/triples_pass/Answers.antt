@@ -1,6 +1,4 @@
-use mathlib.Core.Bool.{true}
 use mathlib.Core.Path.{refl}
-use Prim.Native.Nat.{◌-◌}
 use borrow.Author.Rules.{rules}
 use Rattle.model.proofs.Counted.{more, stop, done}
 use Rattle.kept.specs.Kept.{in_table, triple_passes}

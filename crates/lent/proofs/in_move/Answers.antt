@@ -3,9 +3,6 @@ use mathlib.Core.Path.{◌∙◌}
 use Prim.Native.Nat.{◌+◌, ◌*◌}
 use Rattle.lent.proofs.Parts.{in_part, past_part}
 use native.Mathlib.Omega.{arith}
-use Rattle.lent.proofs.in_move.Reads as reads
-use Rattle.lent.proofs.in_move.Lts as lts
-use Rattle.lent.proofs.wide.Reads as wide-reads
 use Rattle.lent.proofs.in_move.Goals as goal
 
 pub returns-then-v-ge128 : goal.returns-then-v-ge128

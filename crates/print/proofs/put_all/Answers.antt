@@ -1,4 +1,3 @@
-use Prim.Native.Nat.{◌-◌}
 use lib.Seq.{take_all}
 use Rattle.text.proofs.Puts.{none_put, then_put, as_put, put_length}
 use Rattle.print.proofs.Puts.{take_more}

@@ -1,4 +1,3 @@
-use Prim.Native.Nat.{◌-◌}
 use mathlib.Core.Path.{ap}
 use lib.Seq.{take_all}
 use Rattle.product.specs.Lists.{over}

@@ -1,6 +1,6 @@
 use mathlib.Core.Path.{◌≡◌, sym, ap, ◌∙◌}
 use lib.ListN.{length}
-use Prim.Native.Nat.{◌+◌, ◌-◌}
+use Prim.Native.Nat.{◌+◌}
 use Rattle.printing.proofs.Bytes.{count_none, count_more, present_same}
 use borrow.Author.Rules.{rules}
 use native.Mathlib.Omega.{arith}
@@ -15,7 +15,7 @@ loop-i-preserved c =
     let l = c.loop-i in
     let cells = c.args.cells.now in
     elim c.if-cells-i.branch [
-      then-cells-i w ↦ (search rules, omega arith, w.present-is ∙ ap (λ n. n + 1) l.invariant.2 ∙ sym (count_more cells l.i w.if-cells-i.true))
+      | then-cells-i w ↦ (search rules, omega arith, w.present-is ∙ ap (λ n. n + 1) l.invariant.2 ∙ sym (count_more cells l.i w.if-cells-i.true))
       | else-cells-i w ↦ (search rules, omega arith, w.present-is ∙ l.invariant.2 ∙ ap length (sym (present_same cells l.i w.if-cells-i.false)))
     ]
 

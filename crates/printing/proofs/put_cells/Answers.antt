@@ -1,5 +1,4 @@
 use mathlib.Core.Path.{◌≡◌}
-use Prim.Native.Nat.{◌-◌}
 use Rattle.text.proofs.Puts.{none_put, as_put, put_length}
 use Rattle.printing.proofs.Bytes.{cells_none, cells_put}
 use borrow.Author.Rules.{rules}

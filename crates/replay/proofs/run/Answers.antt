@@ -1,6 +1,5 @@
 use mathlib.Core.Bool.{true, false}
 use mathlib.Core.Path.{◌∙◌}
-use Prim.Native.Nat.{◌-◌}
 use native.Mathlib.Omega.{arith}
 use lib.ListN.{length-set}
 use borrow.Author.Rules.{rules}

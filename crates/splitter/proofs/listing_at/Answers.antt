@@ -1,7 +1,6 @@
 use mathlib.Core.Path.{sym, ◌∙◌}
-use mathlib.Core.Logic.{⊎_elim, inl, inr}
+use mathlib.Core.Logic.{inl, inr}
 use Prim.Native.Nat.{◌-◌}
-use Rattle.splitter.specs.Search.{safe_at}
 use Rattle.splitter.proofs.Place.{place_here, place_none, none_but, four_passed}
 use borrow.Author.Rules.{rules}
 use native.Mathlib.Omega.{arith}

@@ -1,4 +1,3 @@
-use Prim.Native.Nat.{◌-◌}
 use native.Mathlib.Omega.{arith}
 use Rattle.lent.specs.Lending.{model_in}
 use Rattle.steps.proofs.Events.{entered_none, entered_more, entered_all}

@@ -1,5 +1,5 @@
 use mathlib.Core.Path.{ap, ◌∙◌}
-use Prim.Native.Nat.{◌-◌, min}
+use Prim.Native.Nat.{min}
 use native.Mathlib.Omega.{arith}
 use Rattle.model.specs.declared.Shape.{Shape}
 use Rattle.lent.specs.Lending.{model_in}

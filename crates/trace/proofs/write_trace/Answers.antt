@@ -1,6 +1,5 @@
 -- `trace::write_trace` meets its contract. Assumes nothing.
 use native.Mathlib.Omega.{arith}
-use borrow.Author.Rules.{rules}
 use Rattle.model.proofs.Valid.{valid_sizes}
 use Rattle.lent.specs.Lending.{of_lent, model_in}
 use Rattle.trace.proofs.Write.{taken_by, unfolded_by, written_cut, written_whole}

@@ -1,4 +1,3 @@
-use Prim.Native.Nat.{◌-◌}
 use Rattle.decide.proofs.Building.{finals_none, finals_more, finals_all}
 use Rattle.lent.specs.Lending.{product_in}
 use native.Mathlib.Omega.{arith}

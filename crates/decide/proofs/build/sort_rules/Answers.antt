@@ -1,4 +1,3 @@
-use Prim.Native.Nat.{◌-◌}
 use native.Mathlib.Omega.{arith}
 use Rattle.decide.proofs.Building.{sorted_none, sorted_more, sorted_all}
 use Rattle.decide.proofs.build.sort_rules.Goals as goal

@@ -1,6 +1,5 @@
 -- `decide::build::sort_rules` meets its contract. The loop's invariant: the rules before r are sorted; the rules that are left fall. Assumes nothing.
 use Prim.Native.Nat.{◌≤◌, ◌-◌}
-use borrow.Author.Rules.{rules}
 use Rattle.decide.specs.Build.{RulesSorted}
 use Rattle.decide.proofs.build.sort_rules.Given as goal
 

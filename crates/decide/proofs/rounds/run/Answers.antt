@@ -1,4 +1,3 @@
-use Prim.Native.Nat.{◌-◌}
 use Rattle.decide.proofs.Emptied.{empty_first}
 use Rattle.decide.proofs.Going.{small_state, small_symbol, going_first, changed_low, ends, room, can_heads, can_triples, low_triples, low_heads, going_next}
 use native.Mathlib.Omega.{arith}

@@ -2,7 +2,6 @@
 use Prim.Native.Nat.{◌-◌}
 use Rattle.decide.specs.Gather.{Empty}
 use Rattle.decide.proofs.Going.{Going}
-use borrow.Author.Rules.{rules}
 use Rattle.decide.proofs.rounds.run.Given as goal
 
 abbrev pub invariant-loop-d : goal.invariant-loop-d

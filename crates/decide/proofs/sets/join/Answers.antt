@@ -1,4 +1,3 @@
-use Prim.Native.Nat.{◌-◌}
 use Rattle.decide.proofs.Members.{joined_none, joined_more, joined_all}
 use native.Mathlib.Omega.{arith}
 use Rattle.decide.proofs.sets.join.Goals as goal

@@ -1,7 +1,6 @@
 use mathlib.Core.Path.{refl}
 use native.Mathlib.Omega.{arith}
 use lib.Count.{trailing_le}
-use lib.ListN.{length}
 use borrow.Author.Rules.{rules}
 use Rattle.table.proofs.Bytes.{cell_small}
 use Rattle.bits.proofs.Lowest.{cleared_less}

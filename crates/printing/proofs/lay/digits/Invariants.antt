@@ -1,6 +1,6 @@
 -- `printing::lay::digits` meets its contract, by the invariant `Filled`; what is left of the number falls. Assumes nothing.
 use mathlib.Core.Path.{◌≡◌}
-use Prim.Native.Nat.{◌≤◌, ◌-◌}
+use Prim.Native.Nat.{◌≤◌}
 use lib.ListN.{length}
 use Rattle.printing.proofs.Digits.{Filled}
 use Rattle.printing.proofs.lay.digits.Given as goal

@@ -1,5 +1,4 @@
 use mathlib.Core.Path.{refl, ap, ◌∙◌}
-use Prim.Native.Nat.{◌-◌}
 use lib.ListN.{get_or}
 use lib.Seq.{take_all}
 use Rattle.product.specs.Lists.{over}

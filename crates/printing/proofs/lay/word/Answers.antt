@@ -1,5 +1,4 @@
 use mathlib.Core.Path.{refl, ◌∙◌}
-use Prim.Native.Nat.{◌-◌}
 use lib.ListN.{length-set}
 use lib.Seq.{take_all}
 use Rattle.text.proofs.Puts.{none_put, then_put, as_put, one_put}

@@ -1,5 +1,4 @@
 use mathlib.Core.Path.{refl, ◌∙◌}
-use Prim.Native.Nat.{◌-◌}
 use native.Mathlib.Omega.{arith}
 use lib.ListN.{length-set}
 use Rattle.recheck.proofs.Matrices.{Heads, heads_inside, heads_are, stored}

@@ -1,4 +1,3 @@
-use Prim.Native.Nat.{◌-◌}
 use native.Mathlib.Nat.{mul-one, zero-add}
 use native.Mathlib.Omega.{arith}
 use Rattle.recheck.proofs.Matrices.{rowed_none, rowed_more, rowed_all, rowed_alone}

@@ -1,4 +1,3 @@
-use Prim.Native.Nat.{◌-◌}
 use native.Mathlib.Omega.{arith}
 use borrow.Author.Rules.{rules}
 use Rattle.recheck.proofs.Matrices.{small_place, triples_inside, matrixed_none, matrixed_more, triples_are}

@@ -1,6 +1,5 @@
 use mathlib.Core.List.{[], ◌∷◌}
 use mathlib.Core.Path.{refl, sym, ap}
-use Prim.Native.Nat.{◌-◌}
 use Rattle.culprit.proofs.First.{find_more, find_here}
 use Rattle.kept.specs.Kept.{in_table}
 use Rattle.recheck.specs.Tests.{step, is_closed, is_open, found_as}

@@ -1,6 +1,4 @@
-use Prim.Native.Nat.{◌-◌}
 use native.Mathlib.Omega.{arith}
-use borrow.Author.Rules.{rules}
 use Rattle.lent.specs.Lending.{model_in}
 use Rattle.recheck.specs.Tests.{closed_by}
 use Rattle.recheck.proofs.Rules.{opens_here, closed_more, all_closed}

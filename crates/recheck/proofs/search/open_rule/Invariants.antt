@@ -1,7 +1,6 @@
 -- `recheck::search::open_rule` meets its contract. The loop's invariant: the rules before r are closed; the rules that are left fall. Assumes nothing.
 use Prim.Native.Nat.{ℕ, ◌<◌, ◌≤◌, ◌-◌}
 use lib.Dec.{T}
-use borrow.Author.Rules.{rules}
 use Rattle.lent.specs.Lending.{model_in}
 use Rattle.recheck.specs.Tests.{closed_by}
 use Rattle.recheck.proofs.search.open_rule.Given as goal

@@ -1,6 +1,5 @@
 -- `recheck::search::open_step` meets its contract. Matrices decide the rule, and its moves are tried. Assumes nothing.
 use mathlib.Core.Path.{ap}
-use borrow.Author.Rules.{rules}
 use Rattle.model.specs.declared.Shape.{Shape}
 use Rattle.lent.specs.Lending.{model_in}
 use Rattle.recheck.proofs.Rules.{fits, nowhere_at, first_at}

@@ -1,7 +1,5 @@
 use borrow.Author.Rules.{rules}
-use mathlib.Core.Bool.{true}
 use mathlib.Core.Path.{refl}
-use Prim.Native.Nat.{◌-◌}
 use Rattle.lent.specs.Lending.{product_in}
 use Rattle.model.proofs.Counted.{more, stop, done}
 use Rattle.kept.specs.Kept.{in_table}
