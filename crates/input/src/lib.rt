@@ -1,10 +1,9 @@
 // Input read into lent memory.
 #![tactic(auto)]
 
-ghost use Rattle.std.specs.Prelude.{◌≢◌, ◌<◌, ◌≤◌, IfErr, IfOk, length, take};
+ghost use Rattle.std.specs.Prelude.{ℕ, ◌<◌, ◌≤◌, IfOk, OnErr, length, take};
 ghost use Rattle.std.specs.Io.{ReadsAtMost};
 ghost use Rattle.std.specs.Io.KnownBytes.{Consumes, IsAtEnd, ReadConsumes};
-ghost use Rattle.std.specs.IoError.{error_kind};
 
 use std::io::{Error, ErrorKind, Read, Result};
 
@@ -30,6 +29,7 @@ fn read_some<R: Read>(reader: &mut R, space: &mut [u8]) -> Result<usize>
 pub fn read_full<R: Read>(reader: &mut R, space: &mut [u8]) -> Result<usize>
     ensures within { IfOk result (λ n. n ≤ length space.new) }
     ensures bytes { IfOk result (λ n. Consumes (R.remaining reader.old) (R.remaining reader.new) (take n space.new)) }
+    ensures none_lost { OnErr result ((k : ℕ) × (k ≤ length space.new) × Consumes (R.remaining reader.old) (R.remaining reader.new) (take k space.new)) }
     ensures whole { IfOk result (λ n. n < length space.new → IsAtEnd (R.remaining reader.new)) }
 {
     let mut filled = 0;
