@@ -10,8 +10,6 @@ stack of 8 MiB. Its last line is 'N passed, M failed'.
 """
 
 import concurrent.futures
-import os
-import platform
 import resource
 import subprocess
 import sys
@@ -22,25 +20,13 @@ import second
 
 TOP = Path(__file__).resolve().parent.parent
 NAMES = {"check": "pdcheck", "recheck": "pdrecheck"}
-PROGRAMS = {program: [str(TOP / "target" / "bin" / name)] for program, name in NAMES.items()}
+PROGRAMS = {program: [str(TOP / "crates" / name / "out" / name)] for program, name in NAMES.items()}
 STACK = 8 << 20
-
-
-def command():
-    """How a program for x86-64 is run here: by the toolchain's loader, and on another processor by its emulator."""
-    kit = Path(subprocess.run(["rt", "doc"], capture_output=True, text=True, check=True).stdout.strip()).parent.parent
-    tools = kit / "on" / platform.machine() / "toolchain"
-    emulator = tools / "bin" / "qemu-x86_64"
-    loader = [str(tools / "lib" / "ld-linux-x86-64.so.2"), "--library-path", str(tools / "lib")]
-    return ([str(emulator)] if os.access(emulator, os.X_OK) else []) + loader
-
-
-COMMAND = command()
 
 
 def run(program, data, pieces=False, stack=STACK):
     """What the proved program prints for these bytes; in pieces, they come through a pipe a few at a time."""
-    words = COMMAND + PROGRAMS[program]
+    words = PROGRAMS[program]
 
     def limit():
         resource.setrlimit(resource.RLIMIT_STACK, (stack, resource.getrlimit(resource.RLIMIT_STACK)[1]))
@@ -101,9 +87,16 @@ def stored():
             yield f"{path.stem}: the stored output is not the second program's", b""
 
 
+def build():
+    """Proves and builds a program that is not built."""
+    for name in NAMES.values():
+        subprocess.run([str(TOP / "run"), name, "/dev/null"], stdout=subprocess.DEVNULL, check=True)
+
+
 def main():
     seed = int(sys.argv[1]) if len(sys.argv) > 1 else 1
     count = int(sys.argv[2]) if len(sys.argv) > 2 else 3000
+    build()
     faults, total = list(stored()), 0
     with concurrent.futures.ProcessPoolExecutor() as pool:
         for fault in pool.map(examine, enumerate(inputs(seed, count)), chunksize=16):
@@ -114,6 +107,7 @@ def main():
         print(message)
     if faults and faults[0][1]:
         kept = TOP / "target" / "fault.pd"
+        kept.parent.mkdir(exist_ok=True)
         kept.write_bytes(faults[0][1])
         print(f"the first such input is in {kept.relative_to(TOP)}")
     print(f"{total - len(faults)} passed, {len(faults)} failed")

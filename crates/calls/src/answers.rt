@@ -5,6 +5,7 @@ use decide::Decision;
 use reader::Reading;
 use recheck::Recheck;
 use replay::Replayed;
+use std::io::Result;
 use trace::Traced;
 
 // The words, by their places in the table below.
@@ -95,26 +96,28 @@ fn length(k: usize) -> usize {
 }
 
 // Word k of the table, where each word has 14 bytes, and two numbers.
-fn write(words: &[u8], k: usize, a: u64, b: u64) {
+fn write(rt: &impl Print, words: &[u8], k: usize, a: u64, b: u64) -> Result<()> {
     let n = length(k);
     if 10 < k {
-        return;
+        return Ok(());
     }
     if 14 < n {
-        return;
+        return Ok(());
     }
     let i = k * 14;
     let e = i + n;
     if e <= words.len() {
-        show::line(&words[i..e], a, b);
+        return show::line(rt, &words[i..e], a, b);
     }
+    Ok(())
 }
 
-pub fn show(s: Said) {
+pub fn show(rt: &impl Print, s: Said) -> Result<()> {
     write(
+        rt,
         b"accepted      check refused not closed    violation     safe          refused       trace         trace refused trace cut     replayed      replay refused",
         s.0,
         s.1,
         s.2,
-    );
+    )
 }

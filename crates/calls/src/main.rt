@@ -8,9 +8,9 @@ ghost use Rattle.std.specs.Prelude.{◌≤◌};
 
 use answers::{Said, TRACE_REFUSED};
 use lent::Lent;
-use libc::STDIN_FILENO;
 use numbers::Numbers;
 use replay::Replayed;
+use std::io::Result;
 use table::Size;
 
 mod answers; // each answer as a line
@@ -21,30 +21,36 @@ fn whole(n: u32) -> usize {
     n as usize
 }
 
-fn check<'a>(m: &'a Lent, heads: &'a [u16], triples: &'a [u16]) {
+fn check<'a>(rt: &impl Print, m: &'a Lent, heads: &'a [u16], triples: &'a [u16]) -> Result<()> {
     let r = recheck::check_table(m, heads, triples);
-    answers::show(answers::of_check(r));
+    answers::show(rt, answers::of_check(r))
 }
 
 // The table's cells, and how many of all cells are still as they were.
-fn show_table<'a>(size: Size, heads: &'a [u16], triples: &'a [u16]) {
-    show::word(b"heads");
-    let h = show::numbers(heads, table::head_count(size), 7);
-    show::word(b"\ntriples");
-    let t = show::numbers(triples, table::triple_count(size), 7);
-    show::line(b"\nsevens", h, t);
+fn show_table<'a>(rt: &impl Print, size: Size, heads: &'a [u16], triples: &'a [u16]) -> Result<()> {
+    show::word(rt, b"heads")?;
+    let h = show::numbers(rt, heads, table::head_count(size), 7)?;
+    show::word(rt, b"\ntriples")?;
+    let t = show::numbers(rt, triples, table::triple_count(size), 7)?;
+    show::line(rt, b"\nsevens", h, t)
 }
 
 // What the decision left, and the check of it.
-fn settled<'a>(m: &'a Lent, heads: &'a [u16], triples: &'a [u16]) {
-    show_table(fitting::size_of(m), heads, triples);
-    check(m, heads, triples);
+fn settled<'a>(rt: &impl Print, m: &'a Lent, heads: &'a [u16], triples: &'a [u16]) -> Result<()> {
+    show_table(rt, fitting::size_of(m), heads, triples)?;
+    check(rt, m, heads, triples)
 }
 
-fn decided(m: &Lent, budget: u32, heads: &mut [u16], triples: &mut [u16]) {
+fn decided(
+    rt: &impl Print,
+    m: &Lent,
+    budget: u32,
+    heads: &mut [u16],
+    triples: &mut [u16],
+) -> Result<()> {
     let d = decide::decide(m, budget, heads, triples);
-    answers::show(answers::of_decision(d));
-    settled(m, heads, triples);
+    answers::show(rt, answers::of_decision(d))?;
+    settled(rt, m, heads, triples)
 }
 
 // How many steps were stored.
@@ -55,39 +61,42 @@ fn stored(s: Said) -> usize {
     s.2 as usize
 }
 
-fn show_steps(steps: &[u16]) {
-    show::word(b"steps");
-    show::numbers(steps, 12, 0);
-    show::word(b"\n");
+fn show_steps(rt: &impl Print, steps: &[u16]) -> Result<()> {
+    show::word(rt, b"steps")?;
+    show::numbers(rt, steps, 12, 0)?;
+    show::word(rt, b"\n")
 }
 
-fn show_replay(r: Replayed, stack: &[u8]) {
-    answers::show(answers::of_replay(r));
-    show::line(b"cleared", show::bytes(stack, 0, 0), 0);
+fn show_replay(rt: &impl Print, r: Replayed, stack: &[u8]) -> Result<()> {
+    answers::show(rt, answers::of_replay(r))?;
+    let cleared = show::bytes(rt, stack, 0, 0)?;
+    show::line(rt, b"cleared", cleared, 0)
 }
 
 // The first k steps are those that were stored.
-fn replayed(m: &Lent, steps: &[u16], k: usize, stack: &mut [u8]) {
-    show_steps(steps);
+fn replayed(rt: &impl Print, m: &Lent, steps: &[u16], k: usize, stack: &mut [u8]) -> Result<()> {
+    show_steps(rt, steps)?;
     if k <= steps.len() {
         let r = replay::replay_steps(m, &steps[..k], stack);
-        show_replay(r, stack);
+        return show_replay(rt, r, stack);
     }
+    Ok(())
 }
 
 // The trace, and the replay of the steps that it stored.
 fn traced(
+    rt: &impl Print,
     m: &Lent,
     budget: u32,
     heads: &mut [u16],
     triples: &mut [u16],
     steps: &mut [u16],
     stack: &mut [u8],
-) {
+) -> Result<()> {
     let t = trace::trace(m, budget, heads, triples, steps);
     let said = answers::of_trace(t);
-    answers::show(said);
-    replayed(m, steps, stored(said), stack);
+    answers::show(rt, said)?;
+    replayed(rt, m, steps, stored(said), stack)
 }
 
 // How many cells an array has: n, or none where it is the one that is too short.
@@ -101,19 +110,19 @@ fn kept(short: u32, which: u32, n: usize) -> usize
 }
 
 // The decision between two checks, in arrays full of other numbers.
-fn call_decision(m: &Lent, budget: u32, short: u32) {
+fn call_decision(rt: &impl Print, m: &Lent, budget: u32, short: u32) -> Result<()> {
     let mut heads = [7u16; 260];
     let mut triples = [7u16; 2060];
     let h = kept(short, 1, 260);
     let t = kept(short, 2, 2060);
-    check(m, &heads[..h], &triples[..t]);
-    decided(m, budget, &mut heads[..h], &mut triples[..t]);
+    check(rt, m, &heads[..h], &triples[..t])?;
+    decided(rt, m, budget, &mut heads[..h], &mut triples[..t])
 }
 
 // The trace and its replay, in arrays that hold every fact at rank 0 beforehand.
-fn call_trace(m: &Lent, budget: u32, room: usize, short: u32) {
+fn call_trace(rt: &impl Print, m: &Lent, budget: u32, room: usize, short: u32) -> Result<()> {
     if 8200 < room {
-        return;
+        return Ok(());
     }
     let mut heads = [0u16; 260];
     let mut triples = [0u16; 2060];
@@ -123,77 +132,77 @@ fn call_trace(m: &Lent, budget: u32, room: usize, short: u32) {
     let t = kept(short, 2, 2060);
     let s = kept(short, 3, 8300);
     traced(
+        rt,
         m,
         budget,
         &mut heads[..h],
         &mut triples[..t],
         &mut steps[..room],
         &mut stack[..s],
-    );
+    )
 }
 
 // The calls on a model, by the numbers that were given with it.
-fn call(m: &Lent, given: [u32; 4]) {
+fn call(rt: &impl Print, m: &Lent, given: [u32; 4]) -> Result<()> {
     let budget = given[1];
     let short = given[3];
-    call_decision(m, budget, short);
-    call_trace(m, budget, whole(given[2]), short);
+    call_decision(rt, m, budget, short)?;
+    call_trace(rt, m, budget, whole(given[2]), short)
 }
 
 // A text is read; and the calls are made where four numbers are given.
-fn answer(part: &[u8], numbers: Numbers) {
+fn answer(rt: &impl Print, part: &[u8], numbers: Numbers) -> Result<()> {
     let mut m = lent::blank();
     let r = reader::read_model(part, &mut m);
     if numbers.count == 4 {
-        let given = numbers.at;
-        call(&m, given);
-        return;
+        return call(rt, &m, numbers.at);
     }
-    reading::show_reading(r, &m);
+    reading::show_reading(rt, r, &m)
 }
 
 // The place after the text that is announced at the front of s, or 0 where there is none.
-fn next(s: &[u8]) -> usize {
+fn next(rt: &impl Print, s: &[u8]) -> Result<usize> {
     let fields = numbers::read_fields(s);
     let e = fields.end;
     if s.len() <= e {
-        return 0;
+        return Ok(0);
     }
     let numbers = fields.numbers;
     if numbers.count == 0 {
-        return 0;
+        return Ok(0);
     }
     let given = numbers.at;
     let k = whole(given[0]);
     let b = e + 1;
     if s.len() - b < k {
-        return 0;
+        return Ok(0);
     }
     let after = b + k;
-    answer(&s[b..after], numbers);
-    after
+    answer(rt, &s[b..after], numbers)?;
+    Ok(after)
 }
 
-fn call_each(all: &[u8]) {
+fn call_each(rt: &impl Print, all: &[u8]) -> Result<()> {
     let mut at = 0;
     while at < all.len() {
-        let more = next(&all[at..]);
+        let more = next(rt, &all[at..])?;
         if more == 0 {
-            return;
+            return Ok(());
         }
         if all.len() - at < more {
-            return;
+            return Ok(());
         }
         at += more;
     }
+    Ok(())
 }
 
-fn run(space: &mut [u8]) {
-    let n = io::read_full(STDIN_FILENO, space);
-    call_each(&space[0..n]);
+fn run(rt: &(impl Input + Print), space: &mut [u8]) -> Result<()> {
+    let n = input::read_full(&mut rt.reader(), space)?;
+    call_each(rt, &space[..n])
 }
 
-fn main() {
+fn main(rt: HostRuntime) -> Result<()> {
     let mut space = [0u8; 262144];
-    run(&mut space);
+    run(&rt, &mut space)
 }

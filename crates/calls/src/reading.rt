@@ -4,20 +4,21 @@ use crate::{answers, show};
 use lent::Lent;
 use model::{Rule, Shape};
 use reader::Reading;
+use std::io::Result;
 
 // A rule's kind, 0 to 2, its symbol, and the symbols that it pushes, or 0.
 #[derive(Clone, Copy)]
 struct Row(u64, u64, u64, u64);
 
-fn sizes(s: Shape) {
-    show::word(b"accepted");
-    show::field(s.symbols as u64);
-    show::field(s.states as u64);
-    show::field(s.events as u64);
-    show::field(s.startstate as u64);
-    show::field(s.startsymbol as u64);
-    show::field(s.rules as u64);
-    show::field(s.moves as u64);
+fn sizes(rt: &impl Print, s: Shape) -> Result<()> {
+    show::word(rt, b"accepted")?;
+    show::field(rt, s.symbols as u64)?;
+    show::field(rt, s.states as u64)?;
+    show::field(rt, s.events as u64)?;
+    show::field(rt, s.startstate as u64)?;
+    show::field(rt, s.startsymbol as u64)?;
+    show::field(rt, s.rules as u64)?;
+    show::field(rt, s.moves as u64)
 }
 
 fn row_of(rule: Rule) -> Row {
@@ -28,70 +29,64 @@ fn row_of(rule: Rule) -> Row {
     }
 }
 
-fn rules(m: &Lent, count: usize) {
-    show::word(b"\nrules");
-    let mut r = 0;
-    while r < count {
+fn rules(rt: &impl Print, m: &Lent, count: usize) -> Result<()> {
+    show::word(rt, b"\nrules")?;
+    for r in 0..count {
         let row = row_of(lent::rule_at(m, r));
-        show::field(row.0);
-        show::field(row.1);
-        show::field(row.2);
-        show::field(row.3);
-        r += 1;
+        show::field(rt, row.0)?;
+        show::field(rt, row.1)?;
+        show::field(rt, row.2)?;
+        show::field(rt, row.3)?;
     }
+    Ok(())
 }
 
-fn moves(m: &Lent, count: usize) {
-    show::word(b"\nmoves");
-    let mut v = 0;
-    while v < count {
+fn moves(rt: &impl Print, m: &Lent, count: usize) -> Result<()> {
+    show::word(rt, b"\nmoves")?;
+    for v in 0..count {
         let by = lent::move_at(m, v);
-        show::field(by.source as u64);
-        show::field(by.event as u64);
-        show::field(by.target as u64);
-        v += 1;
+        show::field(rt, by.source as u64)?;
+        show::field(rt, by.event as u64)?;
+        show::field(rt, by.target as u64)?;
     }
+    Ok(())
 }
 
-fn finals(m: &Lent) {
-    show::word(b"\nfinals");
-    let mut q: usize = 0;
-    while q < 8 {
+fn finals(rt: &impl Print, m: &Lent) -> Result<()> {
+    show::word(rt, b"\nfinals")?;
+    for q in 0..8usize {
         if lent::is_final(m, q) {
-            show::field(q as u64);
+            show::field(rt, q as u64)?;
         }
-        q += 1;
     }
+    Ok(())
 }
 
 // The events above 0, which every symbol shows, as symbol·16 + event.
-fn shown(m: &Lent) {
-    show::word(b"\nshows");
-    let mut at: usize = 0;
-    while at < 512 {
+fn shown(rt: &impl Print, m: &Lent) -> Result<()> {
+    show::word(rt, b"\nshows")?;
+    for at in 0..512usize {
         let e = at % 16;
         if e != 0 && lent::shows(m, at / 16, e) {
-            show::field(at as u64);
+            show::field(rt, at as u64)?;
         }
-        at += 1;
     }
-    show::word(b"\n");
+    show::word(rt, b"\n")
 }
 
-fn accepted(m: &Lent) {
+fn accepted(rt: &impl Print, m: &Lent) -> Result<()> {
     let s = lent::shape(m);
-    sizes(s);
-    rules(m, s.rules);
-    moves(m, s.moves);
-    finals(m);
-    shown(m);
+    sizes(rt, s)?;
+    rules(rt, m, s.rules)?;
+    moves(rt, m, s.moves)?;
+    finals(rt, m)?;
+    shown(rt, m)
 }
 
-pub fn show_reading(reading: Reading, m: &Lent) {
+pub fn show_reading(rt: &impl Print, reading: Reading, m: &Lent) -> Result<()> {
     let said = answers::of_reading(reading);
     if said.0 == ACCEPTED {
-        accepted(m);
-        return;
+        return accepted(rt, m);
     }
-    answers::show(said);
+    answers::show(rt, said)
 }

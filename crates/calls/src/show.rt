@@ -1,21 +1,18 @@
 // What is written on standard output: words, fields, and rows of cells.
-use libc::STDOUT_FILENO;
+use std::io::Result;
 
-pub fn word(s: &[u8]) {
-    io::write_all(STDOUT_FILENO, s);
+pub fn word(rt: &impl Print, s: &[u8]) -> Result<()> {
+    rt.write_all(s)
 }
 
-pub fn field(n: u64) {
-    word(b"\t");
-    io::print_decimal(STDOUT_FILENO, n);
+pub fn field(rt: &impl Print, n: u64) -> Result<()> {
+    print!(rt; "\t{n}")
 }
 
 // A word and two numbers.
-pub fn line(s: &[u8], a: u64, b: u64) {
-    word(s);
-    field(a);
-    field(b);
-    word(b"\n");
+pub fn line(rt: &impl Print, s: &[u8], a: u64, b: u64) -> Result<()> {
+    word(rt, s)?;
+    println!(rt; "\t{a}\t{b}")
 }
 
 fn byte(b: u8) -> u64 {
@@ -27,34 +24,30 @@ fn wide(n: u16) -> u64 {
 }
 
 // Writes cell i where it is one of the first n; and k, or one more where the cell is x.
-fn cell(c: u64, i: usize, n: usize, x: u64, k: u64) -> u64 {
+fn cell(rt: &impl Print, c: u64, i: usize, n: usize, x: u64, k: u64) -> Result<u64> {
     if i < n {
-        field(c);
+        field(rt, c)?;
     }
     if c == x {
-        return std::num::wrapping_add_u64(k, 1);
+        return Ok(k.wrapping_add(1));
     }
-    k
+    Ok(k)
 }
 
 // Writes the first n cells, or all where there are fewer; and how many of all of them are x.
-pub fn bytes(s: &[u8], n: usize, x: u64) -> u64 {
+pub fn bytes(rt: &impl Print, s: &[u8], n: usize, x: u64) -> Result<u64> {
     let mut k = 0;
-    let mut i = 0;
-    while i < s.len() {
-        k = cell(byte(s[i]), i, n, x, k);
-        i += 1;
+    for i in 0..s.len() {
+        k = cell(rt, byte(s[i]), i, n, x, k)?;
     }
-    k
+    Ok(k)
 }
 
 // The same of numbers.
-pub fn numbers(s: &[u16], n: usize, x: u64) -> u64 {
+pub fn numbers(rt: &impl Print, s: &[u16], n: usize, x: u64) -> Result<u64> {
     let mut k = 0;
-    let mut i = 0;
-    while i < s.len() {
-        k = cell(wide(s[i]), i, n, x, k);
-        i += 1;
+    for i in 0..s.len() {
+        k = cell(rt, wide(s[i]), i, n, x, k)?;
     }
-    k
+    Ok(k)
 }

@@ -2,16 +2,16 @@
 // here it is only read and written. One byte more than the largest of both texts is enough to see that one is too long.
 #![tactic(auto)]
 
-use libc::{STDIN_FILENO, STDOUT_FILENO};
+use std::io;
 
-fn write_answer(text: &[u8], out: &mut [u8]) {
+fn write_answer(rt: &impl Print, text: &[u8], out: &mut [u8]) -> io::Result<()> {
     let k = rereport::recheck_text(text, out);
-    io::write_all(STDOUT_FILENO, output::front(out, k));
+    rt.write_all(output::front(out, k))
 }
 
-fn main() {
+fn main(rt: HostRuntime) -> io::Result<()> {
     let mut space = [0u8; 61441];
     let mut out = [0u8; 64];
-    let n = io::read_full(STDIN_FILENO, &mut space);
-    write_answer(&space[..n], &mut out);
+    let n = input::read_full(&mut rt.stdin(), &mut space)?;
+    write_answer(&rt, &space[..n], &mut out)
 }
