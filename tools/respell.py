@@ -23,7 +23,7 @@ LEMMAS = (
 )
 APART = {"byRule": "way_by_rule", "byMove": "way_by_move", "byRank": "way_by_rank"}
 APART.update({n: n.replace("-", "_") + "_lem" for n in LEMMAS.split()})
-# Names of the library that a file of ours defines too: they stay.
+# Names of the library that files of ours define too: they stay where they are the library's.
 LIBRARY = {"or-false", "and-true"}
 # Lemmas that port.py had respelled already, with the files that name them.
 HERE = {
@@ -73,14 +73,15 @@ def main(argv):
     report = "--report" in argv
     argv = [a for a in argv if a != "--report"]
     root = argv[0] if argv else "."
-    names = {n: APART.get(n, spelled(n)) for n in defined(root) - LIBRARY}
+    names = {n: APART.get(n, spelled(n)) for n in defined(root)}
     names = {n: to for n, to in names.items() if n != to}
     print(len(names), "names")
     for f in files(root, ["specs/**/*.antt", "proofs/**/*.antt", "src/**/*.rt", "must-fail/*.edit"]):
         with open(f, encoding="utf-8") as it:
             text = it.read()
         seen = {}
-        here = HERE.get(os.path.relpath(f, os.path.join(root, "crates")), {})
+        here = dict(HERE.get(os.path.relpath(f, os.path.join(root, "crates")), {}))
+        here.update({n: n for n in LIBRARY if re.search(r"use mathlib\.[^\n]*[{ ]" + n + "[,}]", text)})
 
         def turn(m):
             w = m[0]
