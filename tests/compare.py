@@ -10,6 +10,7 @@ stack of 8 MiB. Its last line is 'N passed, M failed'.
 """
 
 import concurrent.futures
+import os
 import resource
 import subprocess
 import sys
@@ -31,8 +32,12 @@ def run(program, data, pieces=False, stack=STACK):
     def limit():
         resource.setrlimit(resource.RLIMIT_STACK, (stack, resource.getrlimit(resource.RLIMIT_STACK)[1]))
 
+    def said(out, status):
+        return out if status == 0 else b"ended with status %d\n" % status + out
+
     if not pieces:
-        return subprocess.run(words, input=data, capture_output=True, timeout=120, preexec_fn=limit).stdout
+        done = subprocess.run(words, input=data, capture_output=True, timeout=120, preexec_fn=limit)
+        return said(done.stdout, done.returncode)
     child = subprocess.Popen(words, stdin=subprocess.PIPE, stdout=subprocess.PIPE, preexec_fn=limit)
     try:
         for at in range(0, len(data), 997):
@@ -40,7 +45,18 @@ def run(program, data, pieces=False, stack=STACK):
             child.stdin.flush()
     except BrokenPipeError:
         pass  # the program had read all that it needs to answer
-    return child.communicate(timeout=120)[0]
+    return said(child.communicate(timeout=120)[0], child.returncode)
+
+
+def unreadable(program):
+    """What is wrong where the input cannot be read: the program is to print nothing, and to end with an error."""
+    folder = os.open(TOP, os.O_RDONLY)
+    try:
+        done = subprocess.run(PROGRAMS[program], stdin=folder, capture_output=True, timeout=120)
+    finally:
+        os.close(folder)
+    right = done.returncode == 1 and done.stdout == b"" and done.stderr != b""
+    return None if right else f"{program} of an input that cannot be read: status {done.returncode}, {done.stdout!r}"
 
 
 def evidence(data, out):
@@ -97,7 +113,8 @@ def main():
     seed = int(sys.argv[1]) if len(sys.argv) > 1 else 1
     count = int(sys.argv[2]) if len(sys.argv) > 2 else 3000
     build()
-    faults, total = list(stored()), 0
+    faults, total = list(stored()), len(NAMES)
+    faults += [(fault, b"") for fault in map(unreadable, NAMES) if fault]
     with concurrent.futures.ProcessPoolExecutor() as pool:
         for fault in pool.map(examine, enumerate(inputs(seed, count)), chunksize=16):
             total += 1

@@ -1,5 +1,5 @@
 // A round of the heads: where the steps of a rule end, there is a head of what it puts on top, and of what lies under that once it is erased.
-// `round_heads` has nine parameters: six are lent, and a struct that holds a reference has no proof but one by hand (see triples.rt).
+// `round_heads` has nine parameters: six are lent (see triples.rt).
 ghost use Rattle.std.specs.Prelude.{◌≡◌, ◌&&◌, ℕ, ◌<◌, eqb, length};
 ghost use Rattle.bits.specs.Bit.{bit};
 ghost use Rattle.steps.specs.Rows.{class_at};

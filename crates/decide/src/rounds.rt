@@ -1,5 +1,5 @@
 // The rounds until a verdict or the end of the budget: the tests after each, and the choice of the rules for the next.
-// `run` has nine parameters: five are lent, and a struct that holds a reference has no proof but one by hand.
+// `run` has nine parameters: five are lent, and with the older kit a struct that held a reference had no proof but one by hand.
 ghost use Rattle.std.specs.Prelude.{◌≡◌, ℕ, ◌*◌, ◌%◌, ◌^◌, ◌<◌, T, set};
 ghost use Rattle.bits.specs.Bit.{bit};
 ghost use Rattle.decide.specs.Turn.{Chosen};

@@ -1,6 +1,6 @@
 // A round of the triples: what is run after the steps of a rule is gathered by class, and goes once through the steps of each class that has more.
-// `settle`, `settle_all` and `round_triples` have seven and eight parameters: four and five are lent, and a struct that holds a reference has no
-// proof but one by hand; size and k as a struct by value made a decision of many rounds 2 to 3 % longer.
+// `settle`, `settle_all` and `round_triples` have seven and eight parameters: four and five are lent, and with the older kit a struct that held a
+// reference had no proof but one by hand; size and k as a struct by value made a decision of many rounds 2 to 3 % longer.
 ghost use Rattle.std.specs.Prelude.{◌≡◌, ℕ, ◌+◌, ◌%◌, ◌<◌, ◌≤◌, length, get_or, set};
 ghost use Rattle.bits.specs.Matrix.{multiplied};
 ghost use Rattle.steps.specs.Steps.{symbol_of};

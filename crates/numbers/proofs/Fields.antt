@@ -1,4 +1,4 @@
--- How `numbersFrom` goes on, field by field and by the place of the next tab or line feed. Assumes nothing.
+-- How `numbers_from` goes on, field by field and by the place of the next tab or line feed. Assumes nothing.
 use mathlib.Core.Path.{◌≡◌, refl, ap, sym, ◌∙◌}
 use mathlib.Core.Bool.{Bool, true, false}
 use mathlib.Core.List.{List, [], ◌∷◌}

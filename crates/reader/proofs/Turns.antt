@@ -1,4 +1,4 @@
--- How `readFrom` goes on, line by line: the invariant of the loop over lines. Assumes nothing.
+-- How `read_from` goes on, line by line: the invariant of the loop over lines. Assumes nothing.
 use mathlib.Core.Path.{◌≡◌, refl, sym, ap, ◌∙◌}
 use mathlib.Core.List.{List, [], ◌∷◌}
 use Prim.Native.Nat.{ℕ, ◌+◌, ◌<◌, ◌≤◌}

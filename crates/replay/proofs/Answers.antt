@@ -36,7 +36,7 @@ module _ (m : Model) (steps cells : List ℕ) {b : Bool} (tested : b ≡ valid m
   short y l = record { answer = rw (sym tested ∙ y, le-ltb (length steps) (length cells) l); cells = refl }
 
   pub runs : b ≡ true → length steps < length cells → Runs m steps cells
-  runs y l = record { is_valid = is_valid m tested (y); room = l }
+  runs y l = record { is_valid = is_valid m tested y; room = l }
 
   pub ran : b ≡ true → length steps < length cells → (r : Replayed) (run cleared : List ℕ) → Ran m steps cells r run
       → cleared ≡ replicate (length steps + 1) 0 ++ drop (length steps + 1) run → Replays m steps cells r cleared

@@ -1,4 +1,4 @@
--- How `sameBytes` goes on at a place, and that it tells equal lists from others. Assumes nothing.
+-- How `same_bytes` goes on at a place, and that it tells equal lists from others. Assumes nothing.
 use mathlib.Core.Path.{◌≡◌, refl, ap, ◌∙◌}
 use Prim.Native.Nat.{ℕ, ◌+◌, ◌<◌, ◌≤◌}
 use mathlib.Core.Bool.{Bool, true, false}

@@ -1,4 +1,4 @@
--- `rows::take_line` meets its contract: each word has its own case of `stepBy`. Assumes nothing.
+-- `rows::take_line` meets its contract: each word has its own case of `step_by`. Assumes nothing.
 use Rattle.rows.specs.Lines.{step_of}
 use Rattle.rows.proofs.take_line.Goals as goal
 
