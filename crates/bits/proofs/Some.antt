@@ -13,6 +13,7 @@ use lib.Pow.{pow_pos}
 use Rattle.product.proofs.Lists.{and_left, and_right, both, or_left, or_right, or_cases, same_truth}
 use Rattle.bits.specs.Bit.{bit}
 use Rattle.bits.specs.Matrix.{some}
+use Rattle.bits.specs.Ones.{Lowest}
 use Rattle.bits.proofs.Bit.{bit_zero, bit_past, bit_ext}
 use Rattle.bits.proofs.Lowest.{lowest, lowest_set, cleared}
 
@@ -68,6 +69,20 @@ module _ (d : ℕ) (pos : 0 < d) (small : d < 2 ^ 64) (f : ℕ → Bool) where
               (both (bit d j) (f j)
               (and_left (bit d j) (not (eqb j (lowest d))) (subst T (cleared 64 d j pos small) (and_left (bit (bit_and d (d - 1)) j) (f j) u)))
               (and_right (bit (bit_and d (d - 1)) j) (f j) u))
+
+-- the bit that an iterator takes, and the others
+module _ {d i d' : ℕ} (t : Lowest d i d') where
+  pub bit_taken : T (bit d i)
+  bit_taken = rw t.place (lowest_set 64 d t.some_left t.word)
+
+  pub bits_left : (j : ℕ) → bit d' j ≡ bit d j && not (eqb j i)
+  bits_left j = rw (t.place, t.others) (cleared 64 d j t.some_left t.word)
+
+  pub left_in : (j : ℕ) → T (bit d' j) → T (bit d j)
+  left_in j u = and_left (bit d j) (not (eqb j i)) (subst T (bits_left j) u)
+
+  pub some_taken : (f : ℕ → Bool) → some 64 (λ j. bit d j && f j) ≡ f i || some 64 (λ j. bit d' j && f j)
+  some_taken f = rw (t.place, t.others) (some_lowest d t.some_left t.word f)
 
 pub some_none : (n : ℕ) (f : ℕ → Bool) → some n (λ j. bit 0 j && f j) ≡ false
 some_none zero f = refl

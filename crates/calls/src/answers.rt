@@ -1,123 +1,117 @@
-// The answers of the calls, each as the line that says it: a word and two numbers. A match that only makes numbers is cheap to prove; one that
-// writes in each of its branches is not.
-use crate::show;
-use decide::Decision;
-use reader::Reading;
-use recheck::Recheck;
-use replay::Replayed;
-use std::io::Result;
-use trace::Traced;
+// The answers of the calls, each as the line that says it: a word and two numbers. What an answer is in words stands here alone.
+use decide::{DecideError, Verdict};
+use fitting::Unfit;
+use line::TextError;
+use recheck::CheckError;
+use replay::ReplayError;
+use std::fmt;
+use trace::{TraceError, Traced};
 
-// The words, by their places in the table below.
-pub const ACCEPTED: usize = 0;
+#[derive(Clone, Copy, PartialEq, Eq)]
+pub enum Word {
+    Accepted,
+    CheckRefused,
+    NotClosed,
+    Violation,
+    Safe,
+    Refused,
+    Trace,
+    TraceRefused,
+    TraceCut,
+    Replayed,
+    ReplayRefused,
+}
 
-const CHECK_REFUSED: usize = 1;
-
-const NOT_CLOSED: usize = 2;
-
-const VIOLATION: usize = 3;
-
-const SAFE: usize = 4;
-
-const REFUSED: usize = 5;
-
-const TRACE: usize = 6;
-
-pub const TRACE_REFUSED: usize = 7;
-
-const TRACE_CUT: usize = 8;
-
-const REPLAYED: usize = 9;
-
-const REPLAY_REFUSED: usize = 10;
-
-// A word and two numbers.
 #[derive(Clone, Copy)]
-pub struct Said(pub usize, pub u64, pub u64);
+pub struct Said(pub Word, pub usize, pub usize);
 
-pub fn of_reading(r: Reading) -> Said {
-    match r {
-        Reading::Accepted => Said(ACCEPTED, 0, 0),
-        Reading::TooLong => Said(REFUSED, 1, 0),
-        Reading::Malformed(at) => Said(REFUSED, 2, at as u64),
-        Reading::Misplaced(at) => Said(REFUSED, 3, at as u64),
-        Reading::OutOfRange(at) => Said(REFUSED, 4, at as u64),
-        Reading::TooMany(at) => Said(REFUSED, 5, at as u64),
+impl Word {
+    fn text(self) -> &'static str {
+        match self {
+            Word::Accepted => "accepted",
+            Word::CheckRefused => "check refused",
+            Word::NotClosed => "not closed",
+            Word::Violation => "violation",
+            Word::Safe => "safe",
+            Word::Refused => "refused",
+            Word::Trace => "trace",
+            Word::TraceRefused => "trace refused",
+            Word::TraceCut => "trace cut",
+            Word::Replayed => "replayed",
+            Word::ReplayRefused => "replay refused",
+        }
     }
 }
 
-pub fn of_check(r: Recheck) -> Said {
-    match r {
-        Recheck::Accepted => Said(ACCEPTED, 0, 0),
-        Recheck::Invalid => Said(CHECK_REFUSED, 6, 0),
-        Recheck::Short => Said(CHECK_REFUSED, 7, 0),
-        Recheck::NoStart => Said(CHECK_REFUSED, 11, 1),
-        Recheck::Violating => Said(CHECK_REFUSED, 11, 2),
-        Recheck::Open { rule, by } => Said(NOT_CLOSED, rule as u64, by as u64),
+impl fmt::Display for Said {
+    fn fmt<W: fmt::Write>(&self, f: &mut fmt::Formatter<W>) -> fmt::Result {
+        let Said(word, first, second) = *self;
+        write!(f, "{}\t{first}\t{second}", word.text())
     }
 }
 
-pub fn of_decision(d: Decision) -> Said {
-    match d {
-        Decision::Violation(n) => Said(VIOLATION, n as u64, 0),
-        Decision::Safe(n) => Said(SAFE, n as u64, 0),
-        Decision::Invalid => Said(REFUSED, 6, 0),
-        Decision::Short => Said(REFUSED, 7, 0),
-        Decision::Spent(b) => Said(REFUSED, 8, b as u64),
+impl From<TextError> for Said {
+    fn from(e: TextError) -> Said {
+        Said(Word::Refused, usize::from(e.number()), e.line())
     }
 }
 
-pub fn of_trace(t: Traced) -> Said {
-    match t {
-        Traced::Found { rounds, steps } => Said(TRACE, rounds as u64, steps as u64),
-        Traced::Invalid => Said(TRACE_REFUSED, 6, 0),
-        Traced::Short => Said(TRACE_REFUSED, 7, 0),
-        Traced::Spent(b) => Said(TRACE_REFUSED, 8, b as u64),
-        Traced::Safe(n) => Said(TRACE_REFUSED, 9, n as u64),
-        Traced::Cut { rounds, room } => Said(TRACE_CUT, rounds as u64, room as u64),
+// The numbers of the refusals that every call with a model and a table has.
+fn number(unfit: Unfit) -> usize {
+    match unfit {
+        Unfit::Invalid => 6,
+        Unfit::Short => 7,
     }
 }
 
-pub fn of_replay(r: Replayed) -> Said {
-    match r {
-        Replayed::Accepted => Said(REPLAYED, 0, 0),
-        Replayed::Invalid => Said(REPLAY_REFUSED, 6, 0),
-        Replayed::Short => Said(REPLAY_REFUSED, 7, 0),
-        Replayed::Bad(k) => Said(REPLAY_REFUSED, 12, k as u64),
+impl From<Result<(), CheckError>> for Said {
+    fn from(r: Result<(), CheckError>) -> Said {
+        match r {
+            Ok(()) => Said(Word::Accepted, 0, 0),
+            Err(CheckError::Refused(unfit)) => Said(Word::CheckRefused, number(unfit), 0),
+            Err(CheckError::NoStart) => Said(Word::CheckRefused, 11, 1),
+            Err(CheckError::Violating) => Said(Word::CheckRefused, 11, 2),
+            Err(CheckError::Open { rule, by }) => Said(Word::NotClosed, rule, by),
+        }
     }
 }
 
-fn length(k: usize) -> usize {
-    let lengths = [8, 13, 10, 9, 4, 7, 5, 13, 9, 8, 14];
-    if k < 11 {
-        return lengths[k];
+impl From<Result<Verdict, DecideError>> for Said {
+    fn from(r: Result<Verdict, DecideError>) -> Said {
+        match r {
+            Ok(Verdict::Violation(n)) => Said(Word::Violation, usize::from(n), 0),
+            Ok(Verdict::Safe(n)) => Said(Word::Safe, usize::from(n), 0),
+            Err(DecideError::Refused(unfit)) => Said(Word::Refused, number(unfit), 0),
+            Err(DecideError::Spent(b)) => Said(Word::Refused, 8, b as usize),
+        }
     }
-    0
 }
 
-// Word k of the table, where each word has 14 bytes, and two numbers.
-fn write(rt: &impl Print, words: &[u8], k: usize, a: u64, b: u64) -> Result<()> {
-    let n = length(k);
-    if 10 < k {
-        return Ok(());
+impl From<Result<Traced, TraceError>> for Said {
+    fn from(r: Result<Traced, TraceError>) -> Said {
+        match r {
+            Ok(t) => Said(Word::Trace, usize::from(t.rounds), t.steps),
+            Err(TraceError::Undecided(DecideError::Refused(unfit))) => {
+                Said(Word::TraceRefused, number(unfit), 0)
+            }
+            Err(TraceError::Undecided(DecideError::Spent(b))) => {
+                Said(Word::TraceRefused, 8, b as usize)
+            }
+            Err(TraceError::Safe(n)) => Said(Word::TraceRefused, 9, usize::from(n)),
+            Err(TraceError::Cut { rounds, room }) => {
+                Said(Word::TraceCut, usize::from(rounds), room)
+            }
+        }
     }
-    if 14 < n {
-        return Ok(());
-    }
-    let i = k * 14;
-    let e = i + n;
-    if e <= words.len() {
-        return show::line(rt, &words[i..e], a, b);
-    }
-    Ok(())
 }
 
-pub fn show(rt: &impl Print, s: Said) -> Result<()> {
-    write(
-        rt,
-        b"accepted      check refused not closed    violation     safe          refused       trace         trace refused trace cut     replayed      replay refused",
-        s.0,
-        s.1,
-        s.2,
-    )
+impl From<Result<(), ReplayError>> for Said {
+    fn from(r: Result<(), ReplayError>) -> Said {
+        match r {
+            Ok(()) => Said(Word::Replayed, 0, 0),
+            Err(ReplayError::Invalid) => Said(Word::ReplayRefused, 6, 0),
+            Err(ReplayError::Short) => Said(Word::ReplayRefused, 7, 0),
+            Err(ReplayError::Bad(k)) => Said(Word::ReplayRefused, 12, k),
+        }
+    }
 }

@@ -6,41 +6,34 @@
 
 ghost use Rattle.std.specs.Prelude.{◌≤◌};
 
-use answers::{Said, TRACE_REFUSED};
+use answers::{Said, Word};
 use lent::Lent;
-use numbers::Numbers;
-use replay::Replayed;
+use parts::{Part, Parts};
 use std::io::Result;
 use table::Size;
 
 mod answers; // each answer as a line
+mod parts; // the texts that are read
 mod reading; // how a reading ends
-mod show; // what is written
+mod show; // rows of cells
 
-fn whole(n: u32) -> usize {
-    n as usize
-}
-
-fn check<'a>(rt: &impl Print, m: &'a Lent, heads: &'a [u16], triples: &'a [u16]) -> Result<()> {
-    let r = recheck::check_table(m, heads, triples);
-    answers::show(rt, answers::of_check(r))
+fn check(rt: &impl Print, m: &Lent, heads: &[u16], triples: &[u16]) -> Result<()> {
+    let said = Said::from(recheck::check_table(m, heads, triples));
+    println!(rt; "{said}")
 }
 
 // The table's cells, and how many of all cells are still as they were.
-fn show_table<'a>(rt: &impl Print, size: Size, heads: &'a [u16], triples: &'a [u16]) -> Result<()> {
-    show::word(rt, b"heads")?;
-    let h = show::numbers(rt, heads, table::head_count(size), 7)?;
-    show::word(rt, b"\ntriples")?;
-    let t = show::numbers(rt, triples, table::triple_count(size), 7)?;
-    show::line(rt, b"\nsevens", h, t)
+fn show_table(rt: &impl Print, size: Size, heads: &[u16], triples: &[u16]) -> Result<()> {
+    print!(rt; "heads")?;
+    show::cells(rt, heads, size.head_count())?;
+    print!(rt; "\ntriples")?;
+    show::cells(rt, triples, size.triple_count())?;
+    let h = show::count(heads, 7);
+    let t = show::count(triples, 7);
+    println!(rt; "\nsevens\t{h}\t{t}")
 }
 
-// What the decision left, and the check of it.
-fn settled<'a>(rt: &impl Print, m: &'a Lent, heads: &'a [u16], triples: &'a [u16]) -> Result<()> {
-    show_table(rt, fitting::size_of(m), heads, triples)?;
-    check(rt, m, heads, triples)
-}
-
+// The decision, what it left, and the check of it.
 fn decided(
     rt: &impl Print,
     m: &Lent,
@@ -48,39 +41,27 @@ fn decided(
     heads: &mut [u16],
     triples: &mut [u16],
 ) -> Result<()> {
-    let d = decide::decide(m, budget, heads, triples);
-    answers::show(rt, answers::of_decision(d))?;
-    settled(rt, m, heads, triples)
+    let said = Said::from(decide::decide(m, budget, heads, triples));
+    println!(rt; "{said}")?;
+    show_table(rt, fitting::size_of(m), heads, triples)?;
+    check(rt, m, heads, triples)
 }
 
 // How many steps were stored.
-fn stored(s: Said) -> usize {
-    if s.0 == TRACE_REFUSED {
-        return 0;
+fn stored(said: Said) -> usize {
+    if said.0 == Word::TraceRefused {
+        0
+    } else {
+        said.2
     }
-    s.2 as usize
 }
 
-fn show_steps(rt: &impl Print, steps: &[u16]) -> Result<()> {
-    show::word(rt, b"steps")?;
-    show::numbers(rt, steps, 12, 0)?;
-    show::word(rt, b"\n")
-}
-
-fn show_replay(rt: &impl Print, r: Replayed, stack: &[u8]) -> Result<()> {
-    answers::show(rt, answers::of_replay(r))?;
-    let cleared = show::bytes(rt, stack, 0, 0)?;
-    show::line(rt, b"cleared", cleared, 0)
-}
-
-// The first k steps are those that were stored.
-fn replayed(rt: &impl Print, m: &Lent, steps: &[u16], k: usize, stack: &mut [u8]) -> Result<()> {
-    show_steps(rt, steps)?;
-    if k <= steps.len() {
-        let r = replay::replay_steps(m, &steps[..k], stack);
-        return show_replay(rt, r, stack);
-    }
-    Ok(())
+// The replay of the steps that were stored, and how much of its stack is cleared.
+fn replayed(rt: &impl Print, m: &Lent, steps: &[u16], stack: &mut [u8]) -> Result<()> {
+    let said = Said::from(replay::replay_steps(m, steps, stack));
+    println!(rt; "{said}")?;
+    let cleared = show::count(stack, 0);
+    println!(rt; "cleared\t{cleared}\t0")
 }
 
 // The trace, and the replay of the steps that it stored.
@@ -93,20 +74,22 @@ fn traced(
     steps: &mut [u16],
     stack: &mut [u8],
 ) -> Result<()> {
-    let t = trace::trace(m, budget, heads, triples, steps);
-    let said = answers::of_trace(t);
-    answers::show(rt, said)?;
-    replayed(rt, m, steps, stored(said), stack)
+    let said = Said::from(trace::trace(m, budget, heads, triples, steps));
+    println!(rt; "{said}")?;
+    print!(rt; "steps")?;
+    show::cells(rt, steps, 12)?;
+    println!(rt;)?;
+    match steps.get(..stored(said)) {
+        Some(run) => replayed(rt, m, run, stack),
+        None => Ok(()),
+    }
 }
 
 // How many cells an array has: n, or none where it is the one that is too short.
 fn kept(short: u32, which: u32, n: usize) -> usize
     ensures { result ≤ n }
 {
-    if short == which {
-        return 0;
-    }
-    n
+    if short == which { 0 } else { n }
 }
 
 // The decision between two checks, in arrays full of other numbers.
@@ -142,64 +125,28 @@ fn call_trace(rt: &impl Print, m: &Lent, budget: u32, room: usize, short: u32) -
     )
 }
 
-// The calls on a model, by the numbers that were given with it.
-fn call(rt: &impl Print, m: &Lent, given: [u32; 4]) -> Result<()> {
-    let budget = given[1];
-    let short = given[3];
-    call_decision(rt, m, budget, short)?;
-    call_trace(rt, m, budget, whole(given[2]), short)
-}
-
 // A text is read; and the calls are made where four numbers are given.
-fn answer(rt: &impl Print, part: &[u8], numbers: Numbers) -> Result<()> {
+fn answer(rt: &impl Print, part: Part) -> Result<()> {
     let mut m = lent::blank();
-    let r = reader::read_model(part, &mut m);
-    if numbers.count == 4 {
-        return call(rt, &m, numbers.at);
+    let reading = reader::read_model(part.text, &mut m);
+    if part.numbers.count != 4 {
+        return reading::show_reading(rt, reading, &m);
     }
-    reading::show_reading(rt, r, &m)
+    let [_, budget, room, short] = part.numbers.at;
+    call_decision(rt, &m, budget, short)?;
+    call_trace(rt, &m, budget, room as usize, short)
 }
 
-// The place after the text that is announced at the front of s, or 0 where there is none.
-fn next(rt: &impl Print, s: &[u8]) -> Result<usize> {
-    let fields = numbers::read_fields(s);
-    let e = fields.end;
-    if s.len() <= e {
-        return Ok(0);
-    }
-    let numbers = fields.numbers;
-    if numbers.count == 0 {
-        return Ok(0);
-    }
-    let given = numbers.at;
-    let k = whole(given[0]);
-    let b = e + 1;
-    if s.len() - b < k {
-        return Ok(0);
-    }
-    let after = b + k;
-    answer(rt, &s[b..after], numbers)?;
-    Ok(after)
-}
-
-fn call_each(rt: &impl Print, all: &[u8]) -> Result<()> {
-    let mut at = 0;
-    while at < all.len() {
-        let more = next(rt, &all[at..])?;
-        if more == 0 {
-            return Ok(());
-        }
-        if all.len() - at < more {
-            return Ok(());
-        }
-        at += more;
+fn answer_each(rt: &impl Print, row: &[u8]) -> Result<()> {
+    for part in Parts(row) {
+        answer(rt, part)?;
     }
     Ok(())
 }
 
 fn run(rt: &(impl Input + Print), space: &mut [u8]) -> Result<()> {
     let n = input::read_full(&mut rt.reader(), space)?;
-    call_each(rt, &space[..n])
+    answer_each(rt, &space[..n])
 }
 
 fn main(rt: HostRuntime) -> Result<()> {

@@ -7,6 +7,7 @@ use Prim.Native.Nat.{ℕ, ◌<◌, ◌≤◌}
 use native.Mathlib.Omega.{arith}
 use lib.Dec.{T}
 use lib.ListN.{length, drop, length-append, length-drop}
+use Rattle.std.specs.Prelude.{Ok, Err}
 use Rattle.product.specs.Answer.{answered, accepted}
 use Rattle.product.specs.Verdict.{violation, safe, rounds, Verdict, IsVerdict, answer, bound}
 use Rattle.product.specs.Table.{present, ranks, left}
@@ -21,11 +22,11 @@ use Rattle.model.specs.declared.Model.{Model}
 use Rattle.model.specs.Model.{product_of}
 use Rattle.model.specs.Valid.{valid}
 use Rattle.model.proofs.Valid.{valid_sizes, product_in_lem}
-use Rattle.decide.specs.declared.Decision.{Decision}
-use Rattle.decide.specs.declared.Decision.TheVariants.{Violation, Safe, Spent}
+use Rattle.decide.specs.declared.Verdict.TheVariants.{Violation, Safe}
+use Rattle.decide.specs.declared.DecideError.TheVariants.{Spent}
 use Rattle.fitting.specs.Fits.{heads_of as head_count, triples_of as triple_count, Fits}
 use Rattle.fitting.proofs.Tested.{tested_well}
-use Rattle.decide.specs.Decided.{meaning, within, decision, heads_left, triples_left, Decided}
+use Rattle.decide.specs.Decided.{Decision, meaning, within, decision, heads_left, triples_left, Decided}
 use Rattle.decide.proofs.Coincide.{meaning_one}
 use Rattle.recheck.specs.Recheck.{recheck}
 use Rattle.recheck.proofs.Answers.{accepted_exactly, accepted_safe}
@@ -79,27 +80,27 @@ module _ (m : Model) (hs ts : List ℕ) (ready : Fits m (length hs) (length ts))
   answers b r r' hs' ts' d v i l k = to_answer b r hs' ts' d r' v (answer_of (product_of m) b v i l) k
 
   -- the table that a safe verdict leaves
-  module _ (b n : ℕ) (hs' ts' : List ℕ) (d : Decided m b hs ts (Safe n) hs' ts') where
+  module _ (b n : ℕ) (hs' ts' : List ℕ) (d : Decided m b hs ts (Ok (Safe n)) hs' ts') where
     safe_answer : answer (product_of m) b ≡ some (safe n)
-    safe_answer = of_answer b (Safe n) hs' ts' d (safe n) refl
+    safe_answer = of_answer b (Ok (Safe n)) hs' ts' d (safe n) refl
 
     safe_is : IsVerdict (product_of m) (safe n)
     safe_is = (D.answer_verdict b (safe n) safe_answer).0
 
     table_is : view m.symbols m.states hs' ts' ≡ ranks (product_of m) n
     table_is =
-        rw (heads_left_lem b (Safe n) hs' ts' d, triples_left_lem b (Safe n) hs' ts' d, safe_answer)
+        rw (heads_left_lem b (Ok (Safe n)) hs' ts' d, triples_left_lem b (Ok (Safe n)) hs' ts' d, safe_answer)
         (ranks_laid m is_valid n (drop (head_count m) hs) (drop (triple_count m) ts))
 
     same_heads : length hs' ≡ length hs
     same_heads =
-        ap length (heads_left_lem b (Safe n) hs' ts' d)
+        ap length (heads_left_lem b (Ok (Safe n)) hs' ts' d)
         ∙ length-append (heads_of m.symbols m.states (left (product_of m) b)) (drop (head_count m) hs)
         ∙ omega (arith, length_heads m.symbols m.states (left (product_of m) b), length-drop (head_count m) hs, ready.heads_there)
 
     same_triples : length ts' ≡ length ts
     same_triples =
-        ap length (triples_left_lem b (Safe n) hs' ts' d)
+        ap length (triples_left_lem b (Ok (Safe n)) hs' ts' d)
         ∙ length-append (triples_of m.symbols m.states (left (product_of m) b)) (drop (triple_count m) ts)
         ∙ omega (arith, length_triples m.symbols m.states (left (product_of m) b), length-drop (triple_count m) ts, ready.triples_there)
 
@@ -113,16 +114,16 @@ module _ (m : Model) (hs ts : List ℕ) (ready : Fits m (length hs) (length ts))
           (D.safe_accepted n (omega (arith, few_rounds (safe n) safe_is, small)) safe_is),
     )
 
-  violation_exactly : (b : ℕ) → bound (product_of m) ≤ b → (r : Decision) (hs' ts' : List ℕ) → Decided m b hs ts r hs' ts' → ((n : ℕ) × (r ≡ Violation n)) ↔ Violates (product_of m)
+  violation_exactly : (b : ℕ) → bound (product_of m) ≤ b → (r : Decision) (hs' ts' : List ℕ) → Decided m b hs ts r hs' ts' → ((n : ℕ) × (r ≡ Ok (Violation n))) ↔ Violates (product_of m)
   violation_exactly b l r hs' ts' d = (
     λ (n, e). D.violation_exactly.0 (n, (D.answer_verdict b (violation n) (of_answer b r hs' ts' d (violation n) (ap meaning e))).0),
-    λ x. let (n, i) = D.violation_exactly.1 x in (n, answers b r (Violation n) hs' ts' d (violation n) i (omega (arith, few_rounds (violation n) i)) refl),
+    λ x. let (n, i) = D.violation_exactly.1 x in (n, answers b r (Ok (Violation n)) hs' ts' d (violation n) i (omega (arith, few_rounds (violation n) i)) refl),
   )
 
-  safe_exactly : (b : ℕ) → bound (product_of m) ≤ b → (r : Decision) (hs' ts' : List ℕ) → Decided m b hs ts r hs' ts' → ((n : ℕ) × (r ≡ Safe n)) ↔ (Violates (product_of m) → ⊥)
+  safe_exactly : (b : ℕ) → bound (product_of m) ≤ b → (r : Decision) (hs' ts' : List ℕ) → Decided m b hs ts r hs' ts' → ((n : ℕ) × (r ≡ Ok (Safe n))) ↔ (Violates (product_of m) → ⊥)
   safe_exactly b l r hs' ts' d = (
     λ (n, e). D.safe_exactly.0 (n, (D.answer_verdict b (safe n) (of_answer b r hs' ts' d (safe n) (ap meaning e))).0),
-    λ x. let (n, i) = D.safe_exactly.1 x in (n, answers b r (Safe n) hs' ts' d (safe n) i (omega (arith, few_rounds (safe n) i)) refl),
+    λ x. let (n, i) = D.safe_exactly.1 x in (n, answers b r (Ok (Safe n)) hs' ts' d (safe n) i (omega (arith, few_rounds (safe n) i)) refl),
   )
 
   same_more : (b c : ℕ) → b ≤ c → (r r' : Decision) (hs' hs'' ts' ts'' : List ℕ) → Decided m b hs ts r hs' ts' → Decided m c hs ts r' hs'' ts''
@@ -135,10 +136,10 @@ module _ (m : Model) (hs ts : List ℕ) (ready : Fits m (length hs) (length ts))
       )
 
   none_below : (b c : ℕ) → (r r' : Decision) (hs' hs'' ts' ts'' : List ℕ) → Decided m b hs ts r hs' ts' → Decided m c hs ts r' hs'' ts''
-      → (v : Verdict) → meaning r ≡ answered v → c < rounds v → r' ≡ Spent c
+      → (v : Verdict) → meaning r ≡ answered v → c < rounds v → r' ≡ Err (Spent c)
   none_below b c r r' hs' hs'' ts' ts'' d d' v e l =
       let i = (D.answer_verdict b v (of_answer b r hs' ts' d v e)).0 in
-      meaning_one r' (Spent c) (said c r' hs'' ts'' d' ∙ ap (within c) (D.answer_below c v i l))
+      meaning_one r' (Err (Spent c)) (said c r' hs'' ts'' d' ∙ ap (within c) (D.answer_below c v i l))
 
   always_one : (b : ℕ) → bound (product_of m) ≤ b → (r : Decision) (hs' ts' : List ℕ) → Decided m b hs ts r hs' ts'
       → (v : Verdict) × (meaning r ≡ answered v) × (rounds v ≤ bound (product_of m))

@@ -1,17 +1,27 @@
 -- Each contract of the other calls allows one outcome: two things equal to a third are equal. Assumes nothing.
-use mathlib.Core.Bool.{Bool}
+use mathlib.Core.Bool.{cond}
 use mathlib.Core.List.{List}
 use mathlib.Core.Path.{◌≡◌, refl, sym, ap, ap₂, ◌∙◌}
 use Prim.Native.Nat.{ℕ}
+use native.Mathlib.Omega.{arith}
+use lib.Dec.{eqb}
+use Rattle.std.specs.Prelude.{Result, Ok, Err}
+use Rattle.std.specs.Result.{is_ok}
 use Rattle.text.specs.Put.{Put}
+use Rattle.line.proofs.Faults.{number_within, fault_by, same_fault, same_check}
 use Rattle.ranking.specs.Rank.{Ranked}
-use Rattle.modelline.specs.declared.Line.{Line}
+use Rattle.line.specs.declared.fault.Fault.TheVariants.{Malformed, Misplaced, OutOfRange, TooMany}
+use Rattle.line.specs.declared.fault.TextError.{TextError}
+use Rattle.line.specs.declared.fault.TextError.TheVariants.{TooLong, Line}
+use Rattle.line.specs.declared.words.Line as words
+use Rattle.modelline.specs.declared.Word.{Word}
 use Rattle.draft.specs.declared.Outline.{Outline}
 use Rattle.draft.specs.Written.{Notes}
+use Rattle.steps.specs.declared.Kind.{Kind}
 use Rattle.steps.specs.Rows.{RowAt}
 use Rattle.rows.specs.declared.Tally.{Tally}
-use Rattle.rows.specs.declared.End.{End}
-use Rattle.rows.specs.State.{Ended}
+use Rattle.rows.specs.State.{Ended, ended}
+use Rattle.refusal.specs.Refusal as refusal
 use Rattle.refusal.specs.Refusal.{Seeing}
 use Rattle.claims.specs.OneAnswer.{One, Both, OneAnswer}
 
@@ -22,18 +32,30 @@ equal x r r' e e' = e ∙ sym e'
 parted : {A B : Type 0} {whole : A → B} (part : B → A) → ((o : A) → part (whole o) ≡ o) → (x : B) → One (λ o. whole o ≡ x)
 parted part back x o o' e e' = sym (back o) ∙ ap part (e ∙ sym e') ∙ back o'
 
-abbrev end_of : Ended → End × List ℕ × List ℕ
-end_of e =
+-- how the reading of a listing ended
+abbrev Reading : Type 0
+Reading = Result (Unit {0}) TextError × Tally × List ℕ × List ℕ
+
+abbrev reading_of : Ended → Reading
+reading_of e =
     let s = e.state in
     let t : Tally = record { begun = s.begun; rounds = s.rounds; headcount = s.headcount; triplecount = s.triplecount; heads = s.heads; triples = s.triples } in
-    (record { refusal = e.refusal; line = e.line; tally = t }, s.headcells, s.triplecells)
+    (cond (eqb e.refusal 0) (Ok tt) (cond (eqb e.refusal 1) (Err TooLong) (Err (Line (fault_by e.refusal) e.line))), t, s.headcells, s.triplecells)
+
+reading_back : (x : Reading) → reading_of (ended x.0 x.1 x.2 x.3) ≡ x
+reading_back (Ok u, t, hs, ts) = refl
+reading_back (Err TooLong, t, hs, ts) = refl
+reading_back (Err (Line Malformed line), t, hs, ts) = refl
+reading_back (Err (Line Misplaced line), t, hs, ts) = refl
+reading_back (Err (Line OutOfRange line), t, hs, ts) = refl
+reading_back (Err (Line TooMany line), t, hs, ts) = refl
 
 -- a line noted
-noted : (o : Outline) (l : Line) (cells : List ℕ) → Both (λ r after. Notes o l cells r after)
-noted o l cells r r' after after' a b =
-    let n : r.refusal ≡ r'.refusal = a.number ∙ sym b.number in
-    let e : r.outline ≡ r'.outline = a.outline ∙ rw n (sym b.outline) in
-    (ap₂ (λ (n : ℕ) (o : Outline). record { refusal = n; outline = o }) n e, a.bytes ∙ rw n (sym b.bytes))
+noted : (o : Outline) (l : words.Line Word) (cells : List ℕ) → Both (λ r after. Notes o l cells r after)
+noted o l cells (Ok next) (Ok next') after after' (_, n, c) (_, n', c') = (ap (λ o. Ok o) (n ∙ sym n'), c ∙ sym c')
+noted o l cells (Ok next) (Err g) after after' (a, _, _) (b, _) = let h = (number_within g).0 in absurd (omega arith)
+noted o l cells (Err f) (Ok next) after after' (a, _) (b, _, _) = let h = (number_within f).0 in absurd (omega arith)
+noted o l cells (Err f) (Err g) after after' (a, c) (b, c') = (ap (λ f. Err f) (same_fault (sym a ∙ b)), c ∙ sym c')
 
 -- bytes put into lent memory
 put : (out : List ℕ) (at : ℕ) (s : List ℕ) → Both (λ r after. Put out after at r s)
@@ -41,12 +63,18 @@ put out at s r r' after after' a b = (a.place ∙ sym b.place, a.cells ∙ sym b
 
 -- a fact's cell
 ranked : (before : List ℕ) (fault : ℕ) (put : List ℕ) → Both (λ r after. Ranked before after fault put r)
-ranked before fault put r r' after after' a b = (a.answers ∙ sym b.answers, a.leaves ∙ sym b.leaves)
+ranked before fault put r r' after after' a b = (same_check r r' (a.answers ∙ sym b.answers), a.leaves ∙ sym b.leaves)
 
 -- a text read, and its refusal put
+same_result : (r r' : Result (Unit {0}) ℕ) → is_ok r ≡ is_ok r' → refusal.end_of r ≡ refusal.end_of r' → r ≡ r'
+same_result (Ok x) (Ok y) e n = refl
+same_result (Ok x) (Err k) e n = let z : ◌≡◌ {A = ℕ} 0 1 = cc in absurd (omega arith)
+same_result (Err k) (Ok x) e n = let z : ◌≡◌ {A = ℕ} 0 1 = cc in absurd (omega arith)
+same_result (Err k) (Err k') e n = ap (λ k. Err k) n
+
 seeing : (text out : List ℕ) → Both (λ r (x : List ℕ × List ℕ). Seeing text out x.0 r x.1)
 seeing text out r r' x x' a b = (
-  ap₂ (λ (a : Bool) (n : ℕ). record { accepted = a; end = n }) (a.accepts ∙ sym b.accepts) (a.puts.place ∙ sym b.puts.place),
+  same_result r r' (a.accepts ∙ sym b.accepts) (a.puts.place ∙ sym b.puts.place),
   ap₂ (λ (after cells : List ℕ). (after, cells)) (a.puts.cells ∙ sym b.puts.cells) (a.reads ∙ sym b.reads),
 )
 
@@ -57,7 +85,7 @@ row_one row row' a b =
     let c : row.class ≡ row'.class = a.class_is ∙ sym b.class_is in
     let o : row.over ≡ row'.over = a.over_is ∙ sym b.over_is in
     let u : row.under ≡ row'.under = a.under_is ∙ sym b.under_is in
-    ap (λ (k : ℕ). record { kind = k; class = row.class; over = row.over; under = row.under }) k
+    ap (λ (k : Kind). record { kind = k; class = row.class; over = row.over; under = row.under }) k
     ∙ ap (λ (c : ℕ). record { kind = row'.kind; class = c; over = row.over; under = row.under }) c
     ∙ ap₂ (λ (o u : ℕ). record { kind = row'.kind; class = row'.class; over = o; under = u }) o u
 
@@ -70,12 +98,13 @@ each_answer = record {
   place_of_lem = λ z f. equal _;
   read = λ cells p. equal _;
   put_rank = λ cells p n. equal _;
-  rank_at = λ z heads triples f. equal _;
+  rank_at = λ t f. equal _;
+  has = λ t f. equal _;
   clear = λ cells n. equal _;
   head_count_lem = λ z. equal _;
   triple_count_lem = λ z. equal _;
-  culprit = λ lent z heads triples s a. equal _;
-  is_clean = λ lent z heads triples s a. equal _;
+  culprit = λ lent t s a. equal _;
+  is_clean = λ lent t s a. equal _;
   blank = equal _;
   shows = λ lent g e. equal _;
   is_valid = λ lent. equal _;
@@ -85,6 +114,7 @@ each_answer = record {
   is_final = λ lent q. equal _;
   next_state = λ lent r v q n n' e e'. e.0 ∙ sym e'.0;
   product = λ a b. equal _;
+  composed = λ a b. equal _;
   through = λ v b. equal _;
   class_steps_lem = λ lent. equal _;
   class_of_lem = λ lent r c c' e e'. e.0 ∙ sym e'.0;
@@ -95,13 +125,16 @@ each_answer = record {
   read_from = λ s b. equal _;
   model_line = λ s. equal _;
   listing_line = λ s. equal _;
-  refusal_of = λ k l. equal _;
+  fault_number = λ f. equal _;
+  error_number = λ e. equal _;
+  error_line = λ e. equal _;
+  check_line = λ k l r r' e e'. same_check r r' (e ∙ sym e');
   take_line = λ o l cells. noted o l cells;
   size_of_lem = λ lent. equal _;
   measure = λ lent heads triples. equal _;
   rank_head = λ z begun cells n. ranked cells _ _;
   rank_triple = λ z begun cells n. ranked cells _ _;
-  read_text_lem = λ z heads triples text. parted end_of (λ x. refl) _;
+  read_text_lem = λ z heads triples text. parted reading_of reading_back _;
   listing_at = λ text. equal _;
   listing_of_lem = λ text. equal _;
   model_part_lem = λ text. equal _;
@@ -112,10 +145,9 @@ each_answer = record {
   put_fields = λ out at numbers. put out at _;
   put_line = λ out at word numbers. put out at _;
   put_named = λ out at word numbers last. put out at _;
-  has = λ z heads triples f. equal _;
-  next_kept_lem = λ z heads triples q ρ n. equal _;
+  next_kept_lem = λ t q ρ n. equal _;
   rule_closed_lem = λ triples heads steps ρ. equal _;
-  explain = λ lent heads triples n f. equal _;
+  explain = λ lent t n f. equal _;
   front = λ out k. equal _;
   put_violation = λ m whole rounds count out steps. put out 0 _;
   read_or_refuse = λ text out. seeing text out;

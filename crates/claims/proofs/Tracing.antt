@@ -9,6 +9,7 @@ use lib.Dec.{leb}
 use borrow.Author.Tests.{leb-true, leb-false}
 use lib.ListN.{length, take, drop, set}
 use lib.Seq.{sets, sets-eq, take_at}
+use Rattle.std.specs.Prelude.{Ok, Err}
 use Rattle.product.specs.Lists.{each, All}
 use Rattle.product.specs.Answer.{Answer, answered, refused}
 use Rattle.product.specs.Product.{Product, Step, stored, loaded, InRange}
@@ -28,8 +29,9 @@ use Rattle.fitting.specs.Fits.{heads_of as head_count, triples_of as triple_coun
 use Rattle.fitting.proofs.Tested.{tested_well, guarded_by, tested_same}
 use Rattle.decide.specs.Decided.{within, decision, heads_left, triples_left}
 use Rattle.trace.specs.declared.Traced.{Traced}
-use Rattle.trace.specs.declared.Traced.TheVariants.{Found, Spent, Cut}
-use Rattle.trace.specs.Outcome.{traced, meaning, traced_by, steps_by, Outcome}
+use Rattle.trace.specs.declared.TraceError.TheVariants.{Undecided, Cut}
+use Rattle.decide.specs.declared.DecideError.TheVariants.{Spent}
+use Rattle.trace.specs.Outcome.{TraceAnswer, traced, meaning, traced_by, steps_by, Outcome}
 use Rattle.trace.proofs.Outcome.{Answered, answered_by, outcome_one}
 use Rattle.replay.proofs.Outcomes.{accepted_is}
 use Rattle.claims.specs.Tracing.{Tracing, Replaying}
@@ -125,7 +127,7 @@ module _ (m : Model) (budget h t : ℕ) where
     same_left : Fits m h t → left (product_of m) more ≡ left (product_of m) budget
     same_left f = (more_gives f).1
 
-module _ {m : Model} {budget : ℕ} {hs ts room : List ℕ} {r : Traced} {hs' ts' room' : List ℕ} (O : Outcome m budget hs ts room r hs' ts' room') where
+module _ {m : Model} {budget : ℕ} {hs ts room : List ℕ} {r : TraceAnswer} {hs' ts' room' : List ℕ} (O : Outcome m budget hs ts room r hs' ts' room') where
   abbrev said : Answer Verdict
   said = decision m budget (length hs) (length ts)
 
@@ -164,19 +166,19 @@ module _ {m : Model} {budget : ℕ} {hs ts room : List ℕ} {r : Traced} {hs' ts
       as_many = ap length front ∙ length_each (steps n) stored ∙ sym y
 
   -- which answers tell of a violation
-  found : (n k : ℕ) → r ≡ Found n k → (said ≡ answered (violation n)) × (k ≡ length (steps n)) × (k ≤ length room)
-  found n k e = found_by m (length room) n k said (sym (ap meaning e) ∙ O.answer)
+  found : (t : Traced) → r ≡ Ok t → (said ≡ answered (violation t.rounds)) × (t.steps ≡ length (steps t.rounds)) × (t.steps ≤ length room)
+  found t e = found_by m (length room) t.rounds t.steps said (sym (ap meaning e) ∙ O.answer)
 
-  cut_begins : (n k : ℕ) → r ≡ Cut n k → room' ≡ take (length room) (each (steps n) stored)
+  cut_begins : (n k : ℕ) → r ≡ Err (Cut n k) → room' ≡ take (length room) (each (steps n) stored)
   cut_begins n k e =
       let (x, y) = cut_by m (length room) n k said (sym (ap meaning e) ∙ O.answer) (its_refusals m budget (length hs) (length ts)) in
       written n x ∙ sets_full room (each (steps n) stored) (omega (arith, length_each (steps n) stored))
 
-  spent : said ≡ refused 8 (budget ∷ []) → r ≡ Spent budget
-  spent e = (outcome_one m budget hs ts room r (Spent budget) hs' hs' ts' ts' room' room' O
+  spent : said ≡ refused 8 (budget ∷ []) → r ≡ Err (Undecided (Spent budget))
+  spent e = (outcome_one m budget hs ts room r (Err (Undecided (Spent budget))) hs' hs' ts' ts' room' room' O
       (record { answer = sym (ap (traced_by m (length room)) e); heads = O.heads; triples = O.triples; steps = O.steps })).0
 
-  module _ (more : ℕ) (l : budget ≤ more) (unspent : (b : ℕ) → r ≡ Spent b → ⊥) where
+  module _ (more : ℕ) (l : budget ≤ more) (unspent : (b : ℕ) → r ≡ Err (Undecided (Spent b)) → ⊥) where
     not_spent : said ≡ refused 8 (budget ∷ []) → ⊥
     not_spent e = unspent budget (spent e)
 
@@ -197,10 +199,10 @@ module _ {m : Model} {budget : ℕ} {hs ts room : List ℕ} {r : Traced} {hs' ts
 
   pub tracing : Tracing m budget hs ts room r hs' ts' room'
   tracing = record {
-    fits_reaches = λ n k e. let (x, y, z) = found n k e in as_run n x k y z;
-    fits_replays = λ n k e stack stack' a h l.
-        let (x, y, z) = found n k e in
-        (accepted_is m (take k room') stack h).1 ((A n x).fits.valid_model, omega (arith, as_many n x k y z), as_run n x k y z);
+    fits_reaches = λ t e. let (x, y, z) = found t e in as_run t.rounds x t.steps y z;
+    fits_replays = λ t e stack stack' a h l.
+        let (x, y, z) = found t e in
+        (accepted_is m (take t.steps room') stack h).1 ((A t.rounds x).fits.valid_model, omega (arith, as_many t.rounds x t.steps y z), as_run t.rounds x t.steps y z);
     cut_begins = cut_begins;
     same_more = λ more l u r' hs'' ts'' room'' O'. outcome_one m more hs ts room r' r hs'' hs' ts'' ts' room'' room' O' (as_more more l u);
   }

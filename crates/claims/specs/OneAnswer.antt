@@ -1,6 +1,6 @@
 -- The public calls that OneOutcome does not name: any two outcomes that a contract allows coincide. An entry a call, in its contract's own words.
 -- Assumes nothing.
-use Rattle.std.specs.Prelude.{Bool, List, [], ◌∷◌, ◌≡◌, ℕ, ◌<◌, ◌≤◌, length, take, replicate}
+use Rattle.std.specs.Prelude.{Option, Bool, List, [], ◌∷◌, ◌≡◌, ℕ, ◌<◌, ◌≤◌, ltb, length, take, replicate, Result}
 use Rattle.product.specs.Lists.{over}
 use Rattle.text.specs.Split.{first, same_bytes}
 use Rattle.numbers.specs.declared.Numbers.{Numbers}
@@ -8,14 +8,13 @@ use Rattle.numbers.specs.Field.{fields_of}
 use Rattle.numbers.specs.Digits.{digits_of}
 use Rattle.table.specs.declared.Size.{Size}
 use Rattle.table.specs.declared.Fact.{Fact}
-use Rattle.table.specs.declared.Place.{Place}
-use Rattle.table.specs.Cells.{head_count, triple_count, cleared, view}
+use Rattle.table.specs.declared.Table as looked
+use Rattle.table.specs.Cells.{head_count, triple_count, cleared}
 use Rattle.table.specs.Places.{fact_of, place_of, read_at, put_at}
-use Rattle.culprit.specs.declared.Goal.{Goal}
-use Rattle.culprit.specs.Culprit.{goal_as, culprit_in, clean_in}
+use Rattle.table.specs.Looked.{held_in, ranks_in}
+use Rattle.culprit.specs.Culprit.{Goal, goal_as, culprit_in, clean_in}
 use Rattle.model.specs.declared.Model.{Model}
 use Rattle.model.specs.declared.Rule.{Rule}
-use Rattle.model.specs.declared.Next.{Next}
 use Rattle.model.specs.Answers.{rule_as, next_as, meant, landed}
 use Rattle.model.specs.Model as model
 use Rattle.model.specs.Model.{move}
@@ -25,7 +24,11 @@ use Rattle.bits.specs.Matrix.{multiplied, image}
 use Rattle.steps.specs.Rows.{RowAt}
 use Rattle.steps.specs.Steps.{class_of, symbol_of, class_steps, states_after}
 use Rattle.line.specs.Line as line
-use Rattle.modelline.specs.declared.Line.{Line}
+use Rattle.line.specs.declared.fault.Fault.{Fault}
+use Rattle.line.specs.declared.fault.TextError.{TextError}
+use Rattle.line.specs.Fault.{number_of, number_in, text_number, text_line}
+use Rattle.line.specs.declared.words.Line.{Line}
+use Rattle.modelline.specs.declared.Word.{Word}
 use Rattle.modelline.specs.Line as modelline
 use Rattle.listingline.specs.Line as listingline
 use Rattle.limits.specs.declared.Counts as limits
@@ -34,17 +37,17 @@ use Rattle.draft.specs.declared.Outline.{Outline}
 use Rattle.draft.specs.Written.{Notes}
 use Rattle.fitting.specs.Fits.{size_of, fit_of}
 use Rattle.ranking.specs.Rank.{head_fault, head_put, triple_fault, triple_put, Ranked}
-use Rattle.rows.specs.declared.End.{End}
+use Rattle.rows.specs.declared.Tally.{Tally}
 use Rattle.rows.specs.State.{before, ended}
 use Rattle.rows.specs.Lines.{read_text}
 use Rattle.splitter.specs.Part.{listing_of, model_part}
 use Rattle.splitter.specs.Part as part
 use Rattle.print.specs.Bytes.{field_bytes, line_bytes, named_bytes}
 use Rattle.text.specs.Put.{place_in, Put}
-use Rattle.kept.specs.Kept.{in_table, next_kept}
+use Rattle.kept.specs.Kept.{next_kept}
 use Rattle.closed.specs.Closed.{rule_closed}
 use Rattle.explain.specs.declared.Counts.{Counts}
-use Rattle.explain.specs.Answers.{table_in, search_in, found_as, explained}
+use Rattle.explain.specs.Answers.{search_in, found_as, explained}
 use Rattle.violation.specs.Bytes.{shown, violation_bytes}
 use Rattle.refusal.specs.Refusal.{refused_bytes, Seeing}
 use Rattle.report.specs.Output.{check_output}
@@ -66,15 +69,16 @@ pub record OneAnswer : Type 0 where
   pub write_number : (n : ℕ) → One (λ r. r ≡ digits_of n)
   -- table
   pub place_of_lem : (z : Size) (f : Fact) → One (λ r. r ≡ place_of z.symbols z.states (fact_of f))
-  pub read : (cells : List ℕ) (p : Place) → One (λ r. r ≡ read_at cells p)
-  pub put_rank : (cells : List ℕ) (p : Place) (n : ℕ) → One (λ after. after ≡ put_at cells p n)
-  pub rank_at : (z : Size) (heads triples : List ℕ) (f : Fact) → One (λ r. r ≡ view z.symbols z.states heads triples (fact_of f))
+  pub read : (cells : List ℕ) (p : Option ℕ) → One (λ r. r ≡ read_at cells p)
+  pub put_rank : (cells : List ℕ) (p : Option ℕ) (n : ℕ) → One (λ after. after ≡ put_at cells p n)
+  pub rank_at : (t : looked.Table) (f : Fact) → One (λ r. r ≡ ranks_in t (fact_of f))
+  pub has : (t : looked.Table) (f : Fact) → One (λ b. b ≡ held_in t (fact_of f))
   pub clear : (cells : List ℕ) (n : ℕ) → One (λ after. after ≡ cleared n cells)
   pub head_count_lem : (z : Size) → One (λ n. n ≡ head_count z.symbols z.states)
   pub triple_count_lem : (z : Size) → One (λ n. n ≡ triple_count z.symbols z.states)
   -- culprit
-  pub culprit : (lent : List ℕ) (z : Size) (heads triples : List ℕ) (s a : ℕ) → One (λ f. f ≡ goal_as (culprit_in (product_in lent).final z.symbols z.states heads triples s a))
-  pub is_clean : (lent : List ℕ) (z : Size) (heads triples : List ℕ) (s a : ℕ) → One (λ b. b ≡ clean_in (product_in lent).final z.symbols z.states heads triples s a)
+  pub culprit : (lent : List ℕ) (t : looked.Table) (s a : ℕ) → One (λ f. f ≡ goal_as (culprit_in (product_in lent).final t.size.symbols t.size.states t.heads.now t.triples.now s a))
+  pub is_clean : (lent : List ℕ) (t : looked.Table) (s a : ℕ) → One (λ b. b ≡ clean_in (product_in lent).final t.size.symbols t.size.states t.heads.now t.triples.now s a)
   -- lent
   pub blank : One (λ cells. cells ≡ replicate {A = ℕ} 1936 0)
   pub shows : (lent : List ℕ) (g e : ℕ) → One (λ b. b ≡ model.shown (model_in lent) g e)
@@ -86,6 +90,7 @@ pub record OneAnswer : Type 0 where
   pub next_state : (lent : List ℕ) (r v q : ℕ) → One (λ n. (n ≡ next_as (next_by (product_in lent) r v q)) × InByte n)
   -- bits
   pub product : (a b : ℕ) → One (λ r. r ≡ multiplied a b)
+  pub composed : (a b : ℕ) → One (λ r. r ≡ multiplied a b)
   pub through : (v b : ℕ) → One (λ r. r ≡ image v b)
   -- steps
   pub class_steps_lem : (lent : List ℕ) → One (λ r. r ≡ class_steps (model_in lent))
@@ -98,15 +103,18 @@ pub record OneAnswer : Type 0 where
   pub read_from : (s : List ℕ) (b : ℕ) → One (λ r. r ≡ line.from s b)
   pub model_line : (s : List ℕ) → One (λ r. r ≡ modelline.line_at s)
   pub listing_line : (s : List ℕ) → One (λ r. r ≡ listingline.line_at s)
+  pub fault_number : (f : Fault) → One (λ r. r ≡ number_of f)
+  pub error_number : (e : TextError) → One (λ r. r ≡ text_number e)
+  pub error_line : (e : TextError) → One (λ r. r ≡ text_line e)
   -- limits and draft
-  pub refusal_of : (k : limits.Counts) (l : Line) → One (λ r. r ≡ refusal (tests k l.word l.numbers))
-  pub take_line : (o : Outline) (l : Line) (cells : List ℕ) → Both (λ r after. Notes o l cells r after)
+  pub check_line : (k : limits.Counts) (l : Line Word) → One (λ (r : Result (Unit {0}) Fault). number_in r ≡ refusal (tests k l.word l.numbers))
+  pub take_line : (o : Outline) (l : Line Word) (cells : List ℕ) → Both (λ r after. Notes o l cells r after)
   -- fitting, ranking and rows
   pub size_of_lem : (lent : List ℕ) → One (λ z. z ≡ size_of (model_in lent))
   pub measure : (lent : List ℕ) (heads triples : ℕ) → One (λ r. r ≡ fit_of (model_in lent) heads triples)
-  pub rank_head : (z : Size) (begun : ℕ) (cells : List ℕ) (n : Numbers) → Both (λ r after. Ranked cells after (head_fault z begun cells n) (head_put z cells n) r)
-  pub rank_triple : (z : Size) (begun : ℕ) (cells : List ℕ) (n : Numbers) → Both (λ r after. Ranked cells after (triple_fault z begun cells n) (triple_put z cells n) r)
-  pub read_text_lem : (z : Size) (heads triples text : List ℕ) → One {A = End × List ℕ × List ℕ} (λ x. ended x.0 x.1 x.2 ≡ read_text z (before heads triples) text)
+  pub rank_head : (z : Size) (begun : ℕ) (cells : List ℕ) (n : Numbers) → Both (λ r after. Ranked cells after (head_fault z (ltb 0 begun) cells n) (head_put z cells n) r)
+  pub rank_triple : (z : Size) (begun : ℕ) (cells : List ℕ) (n : Numbers) → Both (λ r after. Ranked cells after (triple_fault z (ltb 0 begun) cells n) (triple_put z cells n) r)
+  pub read_text_lem : (z : Size) (heads triples text : List ℕ) → One {A = Result (Unit {0}) TextError × Tally × List ℕ × List ℕ} (λ x. ended x.0 x.1 x.2 x.3 ≡ read_text z (before heads triples) text)
   -- splitter
   pub listing_at : (text : List ℕ) → One (λ r. r ≡ part.place text)
   pub listing_of_lem : (text : List ℕ) → One (λ part. part ≡ listing_of text)
@@ -120,13 +128,11 @@ pub record OneAnswer : Type 0 where
   pub put_line : (out : List ℕ) (at : ℕ) (word numbers : List ℕ) → Both (λ r after. Put out after at r (line_bytes word numbers))
   pub put_named : (out : List ℕ) (at : ℕ) (word numbers last : List ℕ) → Both (λ r after. Put out after at r (named_bytes word numbers last))
   -- kept
-  pub has : (z : Size) (heads triples : List ℕ) (f : Fact) → One (λ b. b ≡ in_table z heads triples (fact_of f))
-  pub next_kept_lem : (z : Size) (heads triples : List ℕ) (q : ℕ) (ρ : Rule) (n : Next) → One (λ b. b ≡ next_kept z.states (in_table z heads triples) q (meant ρ) (landed n))
+  pub next_kept_lem : (t : looked.Table) (q : ℕ) (ρ : Rule) (n : Option ℕ) → One (λ b. b ≡ next_kept t.size.states (held_in t) q (meant ρ) (landed n))
   -- closed
   pub rule_closed_lem : (triples heads : List ℕ) (steps : ℕ) (ρ : Rule) → One (λ b. b ≡ rule_closed triples heads steps (meant ρ))
   -- explain
-  pub explain : (lent heads triples : List ℕ) (n : Counts) (f : Goal)
-      → One (λ w. w ≡ found_as (explained (search_in lent n heads triples) (table_in n heads triples) f))
+  pub explain : (lent : List ℕ) (t : looked.Table) (n : Counts) (f : Goal) → One (λ w. w ≡ found_as (explained (search_in lent t n) (ranks_in t) f))
   -- output
   pub front : (out : List ℕ) (k : ℕ) → One (λ part. part ≡ take k out)
   -- violation, refusal, report and rereport

@@ -3,8 +3,6 @@
 #![tactic(auto)]
 
 ghost use Rattle.std.specs.Prelude.{◌≡◌};
-ghost use Rattle.product.specs.Product.{symbol};
-ghost use Rattle.bits.specs.Matrix.{multiplied};
 ghost use Rattle.model.specs.Answers.{meant};
 ghost use Rattle.closed.specs.Closed.{of_symbol, included, erasing, heads_there, rule_closed};
 
@@ -23,29 +21,16 @@ fn included(a: u64, b: u64) -> bool
     a | b == b
 }
 
-// The product of two matrices; most often one of them is empty.
-fn composed(a: u64, b: u64) -> u64
-    ensures { result ≡ multiplied a b }
-{
-    if a == 0 {
-        return 0;
-    }
-    if b == 0 {
-        return 0;
-    }
-    bits::product(a, b)
-}
-
 // The triples that the steps give, by the triples of what the rule puts there.
 fn erasing(triples: &[u64; 32], steps: u64, rule: Rule) -> u64
     ensures { result ≡ erasing triples.now steps (meant rule) }
 {
     match rule {
         Rule::Exit(_) => steps,
-        Rule::Direct(_, g1) => composed(steps, of_symbol(triples, g1)),
+        Rule::Direct(_, g1) => bits::composed(steps, of_symbol(triples, g1)),
         Rule::Call(_, g1, g2) => {
-            let rest = composed(of_symbol(triples, g1), of_symbol(triples, g2));
-            composed(steps, rest)
+            let rest = bits::composed(of_symbol(triples, g1), of_symbol(triples, g2));
+            bits::composed(steps, rest)
         }
     }
 }
@@ -67,21 +52,11 @@ fn heads_there<'a>(triples: &'a [u64; 32], heads: &'a [u64; 32], after: u64, rul
     }
 }
 
-fn symbol(rule: Rule) -> usize
-    ensures { result ≡ symbol (meant rule) }
-{
-    match rule {
-        Rule::Exit(g) => g,
-        Rule::Direct(g, _) => g,
-        Rule::Call(g, _, _) => g,
-    }
-}
-
 // The rule, of these steps, is closed.
 pub fn rule_closed<'a>(triples: &'a [u64; 32], heads: &'a [u64; 32], steps: u64, rule: Rule) -> bool
     ensures { result ≡ rule_closed triples.now heads.now steps (meant rule) }
 {
-    let g = symbol(rule);
+    let g = rule.symbol();
     if !included(erasing(triples, steps, rule), of_symbol(triples, g)) {
         return false;
     }

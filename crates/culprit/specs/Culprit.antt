@@ -1,21 +1,24 @@
 -- The violating fact that is taken, looked for in the two arrays: heads before triples, then by state, symbol and end state. Assumes nothing.
-use Rattle.std.specs.Prelude.{Bool, true, false, ◌&&◌, List, [], ◌∷◌, ℕ}
+use Rattle.std.specs.Prelude as code
+use Rattle.std.specs.Prelude.{Bool, true, false, ◌&&◌, List, [], ◌∷◌, ℕ, Some, None}
 use Rattle.std.proofs.Math.Option.{Option, none, some}
 use Rattle.product.specs.Lists.{find}
 use Rattle.product.specs.Facts.{Fact, head, triple}
 use Rattle.product.specs.Table.{present}
+use Rattle.table.specs.declared.Fact as table
 use Rattle.table.specs.Cells.{view}
 use Rattle.table.specs.Places.{as_fact}
-use Rattle.culprit.specs.declared.Goal.{Goal}
-use Rattle.culprit.specs.declared.Goal.TheVariants.{Nothing, Of}
 use Rattle.culprit.specs.First.{or_else, first_of}
 
--- the code's answer as the theory has it
+-- the code's answer as the theory has it: a fact whose run is asked for, or none is
+abbrev pub Goal : Type 0
+Goal = code.Option table.Fact
+
 abbrev pub goal_of : Fact → Goal
-goal_of f = Of (as_fact f)
+goal_of f = Some (as_fact f)
 
 abbrev pub goal_as : Option Fact → Goal
-goal_as none = Nothing
+goal_as none = None
 goal_as (some f) = goal_of f
 
 abbrev pub nothing : Option Fact → Bool

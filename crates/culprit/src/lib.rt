@@ -7,14 +7,7 @@ ghost use Rattle.table.specs.Places.{fact_of};
 ghost use Rattle.culprit.specs.Culprit.{goal_as, end_of, guilty, some_head, some_triple, culprit_in, clean_in};
 
 use lent::Lent;
-use table::{Fact, Size};
-
-// A fact whose run is asked for; or none is.
-#[derive(Clone, Copy)]
-pub enum Goal {
-    Nothing,
-    Of(Fact),
-}
+use table::{Fact, Table};
 
 // The state that a fact's run ends in.
 fn end_of(f: Fact) -> usize
@@ -27,93 +20,55 @@ fn end_of(f: Fact) -> usize
 }
 
 // The fact is held, and ends in a final state.
-fn guilty<'a>(m: &'a Lent, heads: &'a [u16], triples: &'a [u16], size: Size, f: Fact) -> bool
-    ensures { result ≡ guilty (product_in m.now).final size.symbols size.states heads.now triples.now (fact_of f) }
+fn guilty(m: &Lent, table: &Table<'_>, f: Fact) -> bool
+    ensures { result ≡ guilty (product_in m.now).final table.now.size.symbols table.now.size.states table.now.heads.now table.now.triples.now (fact_of f) }
 {
-    if !lent::is_final(m, end_of(f)) {
-        return false;
-    }
-    table::rank_at(heads, triples, size, f) != table::ABSENT
+    lent::is_final(m, end_of(f)) && table.has(f)
 }
 
 // The first head that is held in a final state.
-fn some_head<'a>(m: &'a Lent, heads: &'a [u16], triples: &'a [u16], size: Size) -> Goal
-    ensures { result ≡ goal_as (some_head (product_in m.now).final size.symbols size.states heads.now triples.now) }
+fn some_head(m: &Lent, table: &Table<'_>) -> Option<Fact>
+    ensures { result ≡ goal_as (some_head (product_in m.now).final table.now.size.symbols table.now.size.states table.now.heads.now table.now.triples.now) }
 {
-    let states = size.states as usize;
-    let symbols = size.symbols as usize;
-    let mut q: usize = 0;
-    'found: loop {
-        if states <= q {
-            break 'found Goal::Nothing;
-        }
-        let mut g: usize = 0;
-        'symbols: while g < symbols {
+    let symbols = table.size.symbols as usize;
+    for q in 0..table.size.states as usize {
+        for g in 0..symbols {
             let f = Fact::Head(q, g);
-            if guilty(m, heads, triples, size, f) {
-                break 'found Goal::Of(f);
+            if guilty(m, table, f) {
+                return Some(f);
             }
-            g += 1;
         }
-        q += 1;
     }
+    None
 }
 
 // The first triple that is held from the state s and the symbol a into a final state.
-fn some_triple<'a>(
-    m: &'a Lent,
-    heads: &'a [u16],
-    triples: &'a [u16],
-    size: Size,
-    s: usize,
-    a: usize,
-) -> Goal
-    ensures { result ≡ goal_as (some_triple (product_in m.now).final size.symbols size.states heads.now triples.now s a) }
+fn some_triple(m: &Lent, table: &Table<'_>, s: usize, a: usize) -> Option<Fact>
+    ensures { result ≡ goal_as (some_triple (product_in m.now).final table.now.size.symbols table.now.size.states table.now.heads.now table.now.triples.now s a) }
 {
-    let states = size.states as usize;
-    let mut e: usize = 0;
-    'states: while e < states {
+    for e in 0..table.size.states as usize {
         let f = Fact::Triple(s, a, e);
-        if guilty(m, heads, triples, size, f) {
-            return Goal::Of(f);
+        if guilty(m, table, f) {
+            return Some(f);
         }
-        e += 1;
     }
-    Goal::Nothing
+    None
 }
 
 // The violating fact that is held; s and a are the start state and the start symbol.
-pub fn culprit<'a>(
-    m: &'a Lent,
-    heads: &'a [u16],
-    triples: &'a [u16],
-    size: Size,
-    s: usize,
-    a: usize,
-) -> Goal
-    ensures { result ≡ goal_as (culprit_in (product_in m.now).final size.symbols size.states heads.now triples.now s a) }
+pub fn culprit(m: &Lent, table: &Table<'_>, s: usize, a: usize) -> Option<Fact>
+    ensures { result ≡ goal_as (culprit_in (product_in m.now).final table.now.size.symbols table.now.size.states table.now.heads.now table.now.triples.now s a) }
 {
-    let f = some_head(m, heads, triples, size);
-    match f {
-        Goal::Nothing => some_triple(m, heads, triples, size, s, a),
-        Goal::Of(d) => Goal::Of(d),
+    let head = some_head(m, table);
+    if head.is_some() {
+        return head;
     }
+    some_triple(m, table, s, a)
 }
 
 // No violating fact is held.
-pub fn is_clean<'a>(
-    m: &'a Lent,
-    heads: &'a [u16],
-    triples: &'a [u16],
-    size: Size,
-    s: usize,
-    a: usize,
-) -> bool
-    ensures { result ≡ clean_in (product_in m.now).final size.symbols size.states heads.now triples.now s a }
+pub fn is_clean(m: &Lent, table: &Table<'_>, s: usize, a: usize) -> bool
+    ensures { result ≡ clean_in (product_in m.now).final table.now.size.symbols table.now.size.states table.now.heads.now table.now.triples.now s a }
 {
-    let f = culprit(m, heads, triples, size, s, a);
-    match f {
-        Goal::Nothing => true,
-        Goal::Of(_) => false,
-    }
+    culprit(m, table, s, a).is_none()
 }

@@ -17,7 +17,8 @@ use Rattle.bits.proofs.Bit.{bit_or_lem, bit_zero}
 use Rattle.bits.proofs.Set.{bit_pow, one_shifted}
 use Rattle.steps.specs.Steps.{symbol_of}
 use Rattle.steps.specs.declared.Row.{Row}
-use Rattle.steps.specs.Rows.{kind_at, class_at, over_at, under_at, RowAt, rule_by, row_rule}
+use Rattle.steps.specs.declared.Kind.TheVariants.{Exit, Direct}
+use Rattle.steps.specs.Rows.{kind_of, kind_at, class_at, over_at, under_at, RowAt, rule_by, row_rule}
 use Rattle.decide.specs.Sets.{member, chosen, With, Put}
 use Rattle.decide.specs.Gather.{Empty}
 use Rattle.decide.specs.Turn.{UsesOf}
@@ -54,16 +55,27 @@ module _ {us us' : List ℕ} {s r : ℕ} (p : Put us s r us') where
 put_at : {us us' : List ℕ} {s t r : ℕ} → Put us s r us' → s ≡ t → r < 256 → T (member us' t r)
 put_at {us} {us'} {s} {t} {r} p e h = subst (λ s. T (member us' s r)) e (put_there p h)
 
+-- a kind by its number, and the number by the kind
+exit_number : (n : ℕ) → kind_of n ≡ Exit → n ≡ 0
+exit_number zero e = refl
+exit_number (suc zero) e = absurd (cc)
+exit_number (suc (suc n)) e = absurd (cc)
+
 rule_exit : (rs : List ℕ) (r : ℕ) → kind_at rs r ≡ 0 → exit (symbol_of (class_at rs r)) ≡ row_rule rs r
 rule_exit rs r k = rw k
 
-rule_direct : (rs : List ℕ) (r : ℕ) → kind_at rs r ≡ 1 → direct (symbol_of (class_at rs r)) (over_at rs r) ≡ row_rule rs r
-rule_direct rs r k = rw k
+rule_direct : (rs : List ℕ) (r : ℕ) → kind_of (kind_at rs r) ≡ Direct → direct (symbol_of (class_at rs r)) (over_at rs r) ≡ row_rule rs r
+rule_direct rs r k = go (kind_at rs r) k
+  where
+    go : (n : ℕ) → kind_of n ≡ Direct → direct (symbol_of (class_at rs r)) (over_at rs r) ≡ rule_by n (symbol_of (class_at rs r)) (over_at rs r) (under_at rs r)
+    go zero k = absurd (cc)
+    go (suc zero) k = refl
+    go (suc (suc n)) k = absurd (cc)
 
-rule_call : (rs : List ℕ) (r : ℕ) → (kind_at rs r ≡ 0 → ⊥) → (kind_at rs r ≡ 1 → ⊥) → call (symbol_of (class_at rs r)) (over_at rs r) (under_at rs r) ≡ row_rule rs r
+rule_call : (rs : List ℕ) (r : ℕ) → (kind_of (kind_at rs r) ≡ Exit → ⊥) → (kind_of (kind_at rs r) ≡ Direct → ⊥) → call (symbol_of (class_at rs r)) (over_at rs r) (under_at rs r) ≡ row_rule rs r
 rule_call rs r h k = go (kind_at rs r) h k
   where
-    go : (n : ℕ) → (n ≡ 0 → ⊥) → (n ≡ 1 → ⊥) → call (symbol_of (class_at rs r)) (over_at rs r) (under_at rs r) ≡ rule_by n (symbol_of (class_at rs r)) (over_at rs r) (under_at rs r)
+    go : (n : ℕ) → (kind_of n ≡ Exit → ⊥) → (kind_of n ≡ Direct → ⊥) → call (symbol_of (class_at rs r)) (over_at rs r) (under_at rs r) ≡ rule_by n (symbol_of (class_at rs r)) (over_at rs r) (under_at rs r)
     go zero h k = absurd (h refl)
     go (suc zero) h k = absurd (k refl)
     go (suc (suc n)) h k = refl
@@ -88,26 +100,26 @@ module _ {rs : List ℕ} {r : ℕ} {row : Row} (i : RowAt rs r row) (l : r < 256
   from_grew : {us' : List ℕ} → Grew r us us' → UsesOf us' r (row_rule rs r) → UsesPut rs r us us'
   from_grew g u = record { long = g.long; there = u; kept = g.kept; only = g.only }
 
-  pub put_exit : length us ≡ 384 → row.kind ≡ 0 → {w w' : List ℕ} → With w r w' → RulePut rs r us w us w'
+  pub put_exit : length us ≡ 384 → row.kind ≡ Exit → {w w' : List ℕ} → With w r w' → RulePut rs r us w us w'
   put_exit long k m =
-      let z : kind_at rs r ≡ 0 = sym i.kind_is ∙ k in
+      let z : kind_at rs r ≡ 0 = exit_number (kind_at rs r) (sym i.kind_is ∙ k) in
       record { uses = from_grew (grew_none r us long) (subst (UsesOf us r) (rule_exit rs r z) tt); exits = exit_put rs r z m }
 
-  module _ (w : List ℕ) (few : length w ≡ 4) (h : row.kind ≡ 0 → ⊥) {g : ℕ} {a b : List ℕ} (g-is : g ≡ symbol_of row.class) (p : Put us (64 + g) r a) (q : Put a row.over r b) where
+  module _ (w : List ℕ) (few : length w ≡ 4) (h : row.kind ≡ Exit → ⊥) {g : ℕ} {a b : List ℕ} (g-is : g ≡ symbol_of row.class) (p : Put us (64 + g) r a) (q : Put a row.over r b) where
     no_exit : ExitPut rs r w w
-    no_exit = exit_other rs r few (λ z. h (i.kind_is ∙ z))
+    no_exit = exit_other rs r few (λ z. h (i.kind_is ∙ ap kind_of z))
 
     head_at : T (member a (64 + symbol_of (class_at rs r)) r)
     head_at = put_at p (ap (λ n. 64 + n) (g-is ∙ ap symbol_of i.class_is)) l
 
-    pub put_direct : row.kind ≡ 1 → RulePut rs r us w b w
+    pub put_direct : row.kind ≡ Direct → RulePut rs r us w b w
     put_direct k = record {
       uses = from_grew (grew_then (put_grew p) (put_grew q))
           (subst (UsesOf b r) (rule_direct rs r (sym i.kind_is ∙ k)) (put_at q i.over_is l, (put_grew q).kept (64 + symbol_of (class_at rs r)) r l head_at));
       exits = no_exit;
     }
 
-    pub put_call : (row.kind ≡ 1 → ⊥) → {c d : List ℕ} → Put b row.under r c → Put c (32 + row.over) r d → RulePut rs r us w d w
+    pub put_call : (row.kind ≡ Direct → ⊥) → {c d : List ℕ} → Put b row.under r c → Put c (32 + row.over) r d → RulePut rs r us w d w
     put_call k {c} {d} u v = record {
       uses = from_grew (grew_then (grew_then (put_grew p) (put_grew q)) (grew_then (put_grew u) (put_grew v)))
           (subst (UsesOf d r) (rule_call rs r (λ z. h (i.kind_is ∙ z)) (λ z. k (i.kind_is ∙ z))) (

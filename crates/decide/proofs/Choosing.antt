@@ -1,22 +1,21 @@
 -- The sets of the next round name enough rules. Assumes nothing.
-use mathlib.Core.Bool.{Bool, true, false, not, ◌&&◌, ◌||◌}
+use mathlib.Core.Bool.{Bool, true, false, ◌&&◌, ◌||◌}
 use mathlib.Core.List.{List}
 use mathlib.Core.Logic.{◌⊎◌, inl, inr, ⊎_elim}
 use mathlib.Core.Path.{◌≡◌, refl, sym, ap, ◌∙◌, subst, subst⁻¹}
-use Prim.Native.Nat.{ℕ, suc, ◌+◌, ◌-◌, ◌/◌, ◌%◌, ◌<◌, ◌≤◌, ◌^◌}
+use Prim.Native.Nat.{ℕ, suc, ◌+◌, ◌/◌, ◌%◌, ◌<◌, ◌≤◌}
 use native.Mathlib.Nat.{zero-lt-suc, div-lt_iff_lt-mul, zero-add}
 use native.Mathlib.Omega.{arith}
 use native.Mathlib.Decide.{dec_lt}
-use lib.Bits.{bit_and}
-use lib.Dec.{T, eqb}
+use lib.Dec.{T}
 use lib.ListN.{length, replicate, get_or-eq_default}
 use Rattle.product.specs.Product.{Rule, exit, direct, call, Product, InRange}
 use Rattle.product.specs.Facts.{same, first}
-use Rattle.product.proofs.Lists.{and_left, and_right, both, or_left, or_right, or_cases}
+use Rattle.product.proofs.Lists.{and_right, both, or_left, or_right, or_cases}
 use Rattle.bits.specs.Bit.{bit}
 use Rattle.bits.proofs.Bit.{bit_zero}
-use Rattle.bits.proofs.Lowest.{lowest, lowest_set, cleared, cleared_less}
-use Rattle.bits.proofs.Some.{some_of, of_some, some_lowest, some_none}
+use Rattle.bits.specs.Ones.{Lowest}
+use Rattle.bits.proofs.Some.{some_of, of_some, bit_taken, left_in, some_taken, some_none}
 use Rattle.relations.specs.Quiet.{QuietT, QuietH, Told}
 use Rattle.relations.proofs.Quiet.{enough_later}
 use Rattle.decide.specs.Sets.{member, chosen, Joined}
@@ -28,30 +27,29 @@ use Rattle.decide.proofs.Emptied.{zeros_at}
 
 -- what is left to collect, with the set as it is, makes what was asked
 pub record Left (us : List ℕ) (from changed : ℕ) (w₀ : List ℕ) (d : ℕ) (w : List ℕ) : Type 0 where
-  pub small : d < 2 ^ 64
   pub low : (g : ℕ) → T (bit d g) → g < 32
   pub long : length w ≡ 4
   pub is : (r : ℕ) → r < 256 → chosen w r || collected us from d r ≡ chosen w₀ r || collected us from changed r
 
 module _ {us : List ℕ} {from changed : ℕ} {w₀ : List ℕ} where
-  pub left_first : changed < 2 ^ 64 → ((g : ℕ) → T (bit changed g) → g < 32) → length w₀ ≡ 4 → Left us from changed w₀ changed w₀
-  left_first h low l = record { small = h; low = low; long = l; is = λ r _. refl }
+  pub left_first : {d : ℕ} → d ≡ changed → ((g : ℕ) → T (bit changed g) → g < 32) → length w₀ ≡ 4 → Left us from changed w₀ d w₀
+  left_first e low l = rw e (record { low = low; long = l; is = λ r _. refl })
 
-  pub lowest_low : {d : ℕ} {w : List ℕ} → 0 < d → Left us from changed w₀ d w → lowest d < 32
-  lowest_low {d} p l = l.low (lowest d) (lowest_set 64 d p l.small)
+  module _ {d g d' : ℕ} {w : List ℕ} (t : Lowest d g d') (l : Left us from changed w₀ d w) where
+    pub low_taken : g < 32
+    low_taken = l.low g (bit_taken t)
 
-  pub left_next : {d : ℕ} {w w' : List ℕ} → 0 < d → Left us from changed w₀ d w → Joined w us (from + lowest d) w' → Left us from changed w₀ (bit_and d (d - 1)) w'
-  unfolding collected
-  left_next {d} {w} {w'} p l j = record {
-    small = omega (arith, cleared_less d p, l.small);
-    low = λ g t. l.low g (and_left (bit d g) (not (eqb g (lowest d))) (subst T (cleared 64 d g p l.small) t));
-    long = j.long;
-    is = λ r h.
-        ap (λ b. b || collected us from (bit_and d (d - 1)) r) (j.is r h)
-        ∙ sym (or_assoc (chosen w r) (member us (from + lowest d) r) (collected us from (bit_and d (d - 1)) r))
-        ∙ ap (λ b. chosen w r || b) (sym (some_lowest d p l.small (λ g. member us (from + g) r)))
-        ∙ l.is r h;
-  }
+    pub left_next : {w' : List ℕ} → Joined w us (from + g) w' → Left us from changed w₀ d' w'
+    unfolding collected
+    left_next j = record {
+      low = λ g u. l.low g (left_in t g u);
+      long = j.long;
+      is = λ r h.
+          ap (λ b. b || collected us from d' r) (j.is r h)
+          ∙ sym (or_assoc (chosen w r) (member us (from + g) r) (collected us from d' r))
+          ∙ ap (λ b. chosen w r || b) (sym (some_taken t (λ g. member us (from + g) r)))
+          ∙ l.is r h;
+    }
 
   pub left_last : {d : ℕ} {w : List ℕ} → d ≡ 0 → Left us from changed w₀ d w → Collected us from changed w₀ w
   unfolding collected

@@ -8,23 +8,25 @@ use Rattle.product.specs.Answer.{Answer, answered, refused}
 use Rattle.product.specs.Verdict.{Verdict, violation, safe}
 use Rattle.product.proofs.Answer.{apart}
 use Rattle.model.specs.declared.Model.{Model}
-use Rattle.decide.specs.declared.Decision.{Decision}
-use Rattle.decide.specs.declared.Decision.TheVariants.{Violation, Safe, Invalid, Short, Spent}
-use Rattle.decide.specs.Decided.{meaning, Decided}
+use Rattle.decide.specs.declared.Verdict.TheVariants.{Violation, Safe}
+use Rattle.decide.specs.declared.DecideError.TheVariants.{Refused, Spent}
+use Rattle.fitting.specs.declared.Unfit.TheVariants.{Invalid, Short}
+use Rattle.std.specs.Prelude.{Ok, Err}
+use Rattle.decide.specs.Decided.{Decision, meaning, Decided}
 
 -- the case that has a meaning
 abbrev meant : Answer Verdict → Decision
-meant (answered (violation n)) = Violation n
-meant (answered (safe n)) = Safe n
-meant (refused n []) = Invalid
-meant (refused n (b ∷ _)) = cond (eqb n 6) Invalid (cond (eqb n 7) Short (Spent b))
+meant (answered (violation n)) = Ok (Violation n)
+meant (answered (safe n)) = Ok (Safe n)
+meant (refused n []) = Err (Refused Invalid)
+meant (refused n (b ∷ _)) = cond (eqb n 6) (Err (Refused Invalid)) (cond (eqb n 7) (Err (Refused Short)) (Err (Spent b)))
 
 meant_meaning : (r : Decision) → meant (meaning r) ≡ r
-meant_meaning (Violation n) = refl
-meant_meaning (Safe n) = refl
-meant_meaning Invalid = refl
-meant_meaning Short = refl
-meant_meaning (Spent b) = refl
+meant_meaning (Ok (Violation n)) = refl
+meant_meaning (Ok (Safe n)) = refl
+meant_meaning (Err (Refused Invalid)) = refl
+meant_meaning (Err (Refused Short)) = refl
+meant_meaning (Err (Spent b)) = refl
 
 pub meaning_one : (r r' : Decision) → meaning r ≡ meaning r' → r ≡ r'
 meaning_one = apart meant meant_meaning

@@ -3,7 +3,7 @@ use mathlib.Core.Bool.{Bool, true, false, not, ◌&&◌, ◌||◌}
 use mathlib.Core.List.{List}
 use mathlib.Core.Logic.{⊎_elim}
 use mathlib.Core.Path.{◌≡◌, refl, sym, ap, ap₂, ◌∙◌, subst, subst⁻¹}
-use Prim.Native.Nat.{ℕ, ◌+◌, ◌-◌, ◌*◌, ◌/◌, ◌^◌, ◌<◌}
+use Prim.Native.Nat.{ℕ, ◌+◌, ◌*◌, ◌/◌, ◌^◌, ◌<◌}
 use native.Mathlib.Nat.{zero-add}
 use native.Mathlib.Omega.{arith}
 use lib.Bits.{bit_and, bit_or}
@@ -21,8 +21,8 @@ use Rattle.product.proofs.Verdict.{violated_by}
 use Rattle.table.specs.declared.Size.{Size}
 use Rattle.bits.specs.Bit.{bit}
 use Rattle.bits.proofs.Bit.{bit_and_lem, bit_or_lem, bit_zero, bit_shr}
-use Rattle.bits.proofs.Lowest.{lowest, lowest_set, cleared, cleared_less}
-use Rattle.bits.proofs.Some.{of_some, some_of, some_lowest, some_none, has_bit}
+use Rattle.bits.specs.Ones.{Lowest}
+use Rattle.bits.proofs.Some.{of_some, some_of, bit_taken, left_in, some_taken, some_none, has_bit}
 use Rattle.decide.specs.declared.Goal.{Goal}
 use Rattle.decide.specs.Standing.{Begins}
 use Rattle.decide.specs.Driven.{final_heads, violations, Goals}
@@ -33,33 +33,31 @@ use Rattle.decide.proofs.RoundTriples.{states_in, eight}
 
 -- the loop over the symbols that changed: what is left to look at, with what was seen, makes what was asked
 pub record Left (fins changed : ℕ) (hd e : List ℕ) (q g d r : ℕ) : Type 0 where
-  pub small : d < 2 ^ 64
   pub low : (s : ℕ) → T (bit d s) → s < 32
   pub is : (x : ℕ) → bit r x || final_heads fins d hd x ≡ violations fins changed hd e q g x
 
 module _ {fins changed : ℕ} {hd e : List ℕ} {q g : ℕ} where
-  pub left_first : changed < 2 ^ 64 → ((s : ℕ) → T (bit changed s) → s < 32) → Left fins changed hd e q g changed (bit_and (get_or e g 0 / 2 ^ (8 * q)) fins)
+  pub left_first : {d : ℕ} → d ≡ changed → ((s : ℕ) → T (bit changed s) → s < 32) → Left fins changed hd e q g d (bit_and (get_or e g 0 / 2 ^ (8 * q)) fins)
   unfolding violations
-  left_first h low = record {
-    small = h;
+  left_first z low = rw z (record {
     low = low;
     is = λ x. ap (λ b. b || final_heads fins changed hd x) (bit_and_lem (get_or e g 0 / 2 ^ (8 * q)) fins x ∙ ap (λ b. b && bit fins x) (bit_shr (get_or e g 0) (8 * q) x));
-  }
+  })
 
-  pub lowest_low : {d r : ℕ} → 0 < d → Left fins changed hd e q g d r → lowest d < 32
-  lowest_low {d} p l = l.low (lowest d) (lowest_set 64 d p l.small)
+  module _ {d s d' r : ℕ} (t : Lowest d s d') (l : Left fins changed hd e q g d r) where
+    pub low_taken : s < 32
+    low_taken = l.low s (bit_taken t)
 
-  pub left_next : {d r : ℕ} → 0 < d → Left fins changed hd e q g d r → Left fins changed hd e q g (bit_and d (d - 1)) (bit_or r (bit_and (get_or hd (lowest d) 0) fins))
-  unfolding final_heads
-  left_next {d} {r} p l = record {
-    small = omega (arith, cleared_less d p, l.small);
-    low = λ s t. l.low s (and_left (bit d s) (not (eqb s (lowest d))) (subst T (cleared 64 d s p l.small) t));
-    is = λ x.
-        ap (λ b. b || final_heads fins (bit_and d (d - 1)) hd x) (bit_or_lem r (bit_and (get_or hd (lowest d) 0) fins) x ∙ ap (λ b. bit r x || b) (bit_and_lem (get_or hd (lowest d) 0) fins x))
-        ∙ sym (or_assoc (bit r x) (bit (get_or hd (lowest d) 0) x && bit fins x) (final_heads fins (bit_and d (d - 1)) hd x))
-        ∙ ap (λ b. bit r x || b) (sym (some_lowest d p l.small (λ s. bit (get_or hd s 0) x && bit fins x)))
-        ∙ l.is x;
-  }
+    pub left_next : Left fins changed hd e q g d' (bit_or r (bit_and (get_or hd s 0) fins))
+    unfolding final_heads
+    left_next = record {
+      low = λ s u. l.low s (left_in t s u);
+      is = λ x.
+          ap (λ b. b || final_heads fins d' hd x) (bit_or_lem r (bit_and (get_or hd s 0) fins) x ∙ ap (λ b. bit r x || b) (bit_and_lem (get_or hd s 0) fins x))
+          ∙ sym (or_assoc (bit r x) (bit (get_or hd s 0) x && bit fins x) (final_heads fins d' hd x))
+          ∙ ap (λ b. bit r x || b) (sym (some_taken t (λ s. bit (get_or hd s 0) x && bit fins x)))
+          ∙ l.is x;
+    }
 
   pub left_last : {d r : ℕ} → d ≡ 0 → Left fins changed hd e q g d r → (x : ℕ) → bit r x ≡ violations fins changed hd e q g x
   unfolding final_heads

@@ -14,23 +14,25 @@ use Rattle.product.proofs.Lists.{or_right}
 use Rattle.bits.specs.Matrix.{entry, mat, mats, multiplied}
 use Rattle.bits.proofs.Bit.{bit_or_lem, bit_zero}
 use Rattle.steps.specs.declared.Row.{Row}
-use Rattle.steps.specs.Rows.{kind_at, RowAt}
-use Rattle.decide.specs.Sets.{chosen, With, Picked}
+use Rattle.steps.specs.declared.Kind.{Kind}
+use Rattle.steps.specs.declared.Kind.TheVariants.{Exit, Direct, Call}
+use Rattle.steps.specs.Rows.{kind_of, kind_at, RowAt}
+use Rattle.decide.specs.Sets.{chosen, With, Taken}
 use Rattle.decide.specs.Gather.{rest_of, rest_at, added, added_by, Visits, Gains}
 use Rattle.decide.proofs.Members.{or_false, among_picked, among_none}
 
 -- what is run after a step
-pub rest_exit : (kind g1 g2 : ℕ) (e : List ℕ) → kind ≡ 0 → 0x8040201008040201 ≡ rest_of kind g1 g2 e
+pub rest_exit : (kind : Kind) (g1 g2 : ℕ) (e : List ℕ) → kind ≡ Exit → 0x8040201008040201 ≡ rest_of kind g1 g2 e
 unfolding rest_of
-rest_exit kind g1 g2 e k = rw (eq-eqb kind 0 k)
+rest_exit kind g1 g2 e k = rw k
 
-pub rest_direct : (kind g1 g2 : ℕ) (e : List ℕ) → (kind ≡ 0 → ⊥) → kind ≡ 1 → get_or e g1 0 ≡ rest_of kind g1 g2 e
+pub rest_direct : (kind : Kind) (g1 g2 : ℕ) (e : List ℕ) → kind ≡ Direct → get_or e g1 0 ≡ rest_of kind g1 g2 e
 unfolding rest_of
-rest_direct kind g1 g2 e h k = rw (ne_eqb kind 0 h, eq-eqb kind 1 k)
+rest_direct kind g1 g2 e k = rw k
 
-pub rest_call : (kind g1 g2 : ℕ) (e : List ℕ) → (kind ≡ 0 → ⊥) → (kind ≡ 1 → ⊥) → multiplied (get_or e g1 0) (get_or e g2 0) ≡ rest_of kind g1 g2 e
+pub rest_call : (kind : Kind) (g1 g2 : ℕ) (e : List ℕ) → kind ≡ Call → multiplied (get_or e g1 0) (get_or e g2 0) ≡ rest_of kind g1 g2 e
 unfolding rest_of
-rest_call kind g1 g2 e h k = rw (ne_eqb kind 0 h, ne_eqb kind 1 k)
+rest_call kind g1 g2 e k = rw k
 
 -- as entries
 or_and : (a b x y : Bool) → a && b && (x || y) ≡ (a && b && x) || (a && b && y)
@@ -65,7 +67,7 @@ module _ {rs : List ℕ} {i : ℕ} {row : Row} (at_row : RowAt rs i row) (e by t
 
   rest_is : m ≡ rest_at rs e i
   unfolding rest_at
-  rest_is = m-is ∙ ap (λ k. rest_of k row.over row.under e) at_row.kind_is ∙ ap₂ (λ x y. rest_of (kind_at rs i) x y e) at_row.over_is at_row.under_is
+  rest_is = m-is ∙ ap (λ k. rest_of k row.over row.under e) at_row.kind_is ∙ ap₂ (λ x y. rest_of (kind_of (kind_at rs i)) x y e) at_row.over_is at_row.under_is
 
   same_entry : (g q x : ℕ) → eqb c g && mat m q x ≡ added rs e i g q x
   same_entry g q x = ap₂ (λ c m. eqb c g && mat m q x) at_row.class_is rest_is
@@ -115,29 +117,29 @@ pub record Left (rs e w by₀ left t by : List ℕ) : Type 0 where
   pub same : (c : ℕ) → chosen t c ≡ false → get_or by c 0 ≡ get_or by₀ c 0
 
 module _ {rs e w by₀ : List ℕ} where
-  pub left_first : {t : List ℕ} → length w ≡ 4 → length by₀ ≡ 256 → length t ≡ 4 → Left rs e w by₀ w t by₀
-  left_first h z l = record { long = h; entries = λ c q x. refl; few = l; by_long = z; same = λ c _. refl }
+  pub left_first : {left t : List ℕ} → left ≡ w → length w ≡ 4 → length by₀ ≡ 256 → length t ≡ 4 → Left rs e w by₀ left t by₀
+  left_first i h z l = rw i (record { long = h; entries = λ c q x. refl; few = l; by_long = z; same = λ c _. refl })
 
-  pub left_next : {left left' t t' by by' : List ℕ} {i : ℕ} → i < 256 → Picked left i left' → Left rs e w by₀ left t by → Visits (added rs e i) t by t' by' → Left rs e w by₀ left' t' by'
+  pub left_next : {left left' t t' by by' : List ℕ} {i : ℕ} → Taken left i left' → Left rs e w by₀ left t by → Visits (added rs e i) t by t' by' → Left rs e w by₀ left' t' by'
   unfolding added_by
-  left_next {left} {left'} {t} {t'} {by} {by'} {i} h p l g = record {
+  left_next {left} {left'} {t} {t'} {by} {by'} {i} p l g = record {
     long = p.long;
     entries = λ c q x.
         ap (λ b. b || added_by rs e left' c q x) (g.entries c q x)
         ∙ sym (or_assoc (mats by c q x) (added rs e i c q x) (added_by rs e left' c q x))
-        ∙ ap (λ b. mats by c q x || b) (sym (among_picked left (λ i. added rs e i c q x) i left' h p))
+        ∙ ap (λ b. mats by c q x || b) (sym (among_picked left (λ i. added rs e i c q x) p))
         ∙ l.entries c q x;
     few = g.few;
     by_long = g.long;
     same = λ c x. let (a, b) = g.same c x in b ∙ l.same c a;
   }
 
-  pub left_last : {left left' t by : List ℕ} {i : ℕ} → (i < 256 → ⊥) → Picked left i left' → Left rs e w by₀ left t by → Gains (added_by rs e w) by₀ t by
+  pub left_last : {left t by : List ℕ} → ((r : ℕ) → chosen left r ≡ false) → Left rs e w by₀ left t by → Gains (added_by rs e w) by₀ t by
   unfolding added_by
-  left_last {left} {left'} {t} {by} h p l = record {
+  left_last {left} {t} {by} p l = record {
     few = l.few;
     long = l.by_long;
     entries = λ c q x.
-        or_false (mats by c q x) ∙ ap (λ b. mats by c q x || b) (sym (among_none left (λ i. added rs e i c q x) (p.none h))) ∙ l.entries c q x;
+        or_false (mats by c q x) ∙ ap (λ b. mats by c q x || b) (sym (among_none left (λ i. added rs e i c q x) p)) ∙ l.entries c q x;
     same = l.same;
   }

@@ -21,14 +21,15 @@ use Rattle.product.proofs.Budget.{Stands, decided, undecided, answer_stands, ans
 use Rattle.product.proofs.Demands.{bound_small}
 use Rattle.table.specs.declared.Size.{Size}
 use Rattle.bits.specs.Bit.{bit}
-use Rattle.decide.specs.declared.Decision.{Decision}
-use Rattle.decide.specs.declared.Decision.TheVariants.{Violation, Safe, Spent}
-use Rattle.decide.specs.Decided.{meaning, within}
+use Rattle.decide.specs.declared.Verdict.TheVariants.{Violation, Safe}
+use Rattle.decide.specs.declared.DecideError.TheVariants.{Spent}
+use Rattle.std.specs.Prelude.{Ok, Err}
+use Rattle.decide.specs.Decided.{Decision, meaning, within}
 use Rattle.decide.specs.Stamp.{of_heads, of_triples}
 use Rattle.decide.specs.declared.Goal.{Goal}
 use Rattle.decide.specs.declared.Next.{Next}
-use Rattle.decide.specs.declared.rounds.Outcome.{Outcome}
-use Rattle.decide.specs.declared.rounds.Outcome.TheVariants.{Goes, Ends}
+use Rattle.std.specs.Prelude as code
+use Rattle.std.specs.Prelude.{Some, None}
 use Rattle.decide.specs.Gather.{zeros}
 use Rattle.decide.specs.Take.{TriplesReady, TriplesDone}
 use Rattle.decide.specs.Show.{HeadsReady, HeadsDone}
@@ -45,8 +46,8 @@ pub record At (p : Product) (z : Size) (budget : ℕ) (rs tg hs ts : List ℕ) (
   pub begins : Begins p z n t.wt t.wh rs tg by e hd hs' ts'
   pub triples_kept : Kept of_triples z ts ts'
   pub heads_kept : Kept of_heads z hs hs'
-  pub idle : t.more ≡ 0 → T (not (adds p n))
-  pub busy : (t.more ≡ 0 → ⊥) → T (adds p n)
+  pub idle : t.more ≡ false → T (not (adds p n))
+  pub busy : t.more ≡ true → T (adds p n)
   pub low : (s : ℕ) → T (bit t.changed s) → s < 32
   pub others : (q s : ℕ) → bit t.changed s ≡ false → T (held p n (head q s)) → T (not (p.final q))
   pub goes : (k : ℕ) → k < n → GoesOn p k
@@ -85,7 +86,7 @@ module _ {z : Size} {goal : Goal} {t₀ : Next} {rs tg us hs ts : List ℕ} wher
         begins = s.begins;
         triples_kept = record { as_long = refl; past = refl };
         heads_kept = record { as_long = refl; past = refl };
-        idle = λ x. absurd (omega (arith, s.more_is));
+        idle = λ x. absurd (subst T (sym s.more_is ∙ x) tt);
         busy = λ _. tt;
         low = λ x t. subst (λ n. n < 32) (eqb→eq goal.symbol x (subst T (s.changed_is x) t)) (small_symbol d);
         others = λ q' x c h.
@@ -128,9 +129,9 @@ module _ {z : Size} {goal : Goal} {t₀ : Next} {rs tg us hs ts : List ℕ} wher
             }
 
     module _ (r : ℕ) (r-is : (x : ℕ) → bit r x ≡ violations goal.finals t.changed hd e goal.state goal.symbol x) where
-      violated_now : (r ≡ 0 → ⊥) → Driven z goal t₀ rs tg us hs ts budget (Violation n) hs' ts'
+      violated_now : (r ≡ 0 → ⊥) → Driven z goal t₀ rs tg us hs ts budget (Ok (Violation n)) hs' ts'
       violated_now k =
-          answered (Violation n) (λ p s.
+          answered (Ok (Violation n)) (λ p s.
           let b = G.at p s in
           (some (violation n), refl, sym (answer_of p budget (violation n) (b.goes, found b.begins s.goals t.changed b.low r r-is k) b.in_budget), refl))
 
@@ -138,13 +139,13 @@ module _ {z : Size} {goal : Goal} {t₀ : Next} {rs tg us hs ts : List ℕ} wher
         unviolated : (p : Product) → Starts p z goal t₀ rs tg us hs ts → T (not (violated p n))
         unviolated p s = let b = G.at p s in not_found b.begins s.goals t.changed b.low r r-is b.others clean
 
-        safe_now : t.more ≡ 0 → Driven z goal t₀ rs tg us hs ts budget (Safe n) hs' ts'
+        safe_now : t.more ≡ false → Driven z goal t₀ rs tg us hs ts budget (Ok (Safe n)) hs' ts'
         safe_now x =
-            answered (Safe n) (λ p s.
+            answered (Ok (Safe n)) (λ p s.
             let b = G.at p s in
             (some (safe n), refl, sym (answer_of p budget (safe n) (b.goes, (unviolated p s, b.idle x)) b.in_budget), refl))
 
-        module _ (x : t.more ≡ 0 → ⊥) where
+        module _ (x : t.more ≡ true) where
           went_on : (p : Product) → Starts p z goal t₀ rs tg us hs ts → (k : ℕ) → k < suc n → GoesOn p k
           went_on p s k l = at (ℕ_discrete k n)
             where
@@ -152,8 +153,8 @@ module _ {z : Size} {goal : Goal} {t₀ : Next} {rs tg us hs ts : List ℕ} wher
               at (yes i) = subst⁻¹ (GoesOn p) i (unviolated p s, (G.at p s).busy x)
               at (no i) = (G.at p s).goes k (omega arith)
 
-          spent_now : budget ≤ n → Driven z goal t₀ rs tg us hs ts budget (Spent budget) hs' ts'
-          spent_now l = answered (Spent budget) (λ p s. (none, refl, sym (go p s (answer p budget) (answer_stands p budget)), omega (arith, (G.at p s).in_budget)))
+          spent_now : budget ≤ n → Driven z goal t₀ rs tg us hs ts budget (Err (Spent budget)) hs' ts'
+          spent_now l = answered (Err (Spent budget)) (λ p s. (none, refl, sym (go p s (answer p budget) (answer_stands p budget)), omega (arith, (G.at p s).in_budget)))
             where
               go : (p : Product) → Starts p z goal t₀ rs tg us hs ts → (o : Option Verdict) → Stands p (suc budget) o → o ≡ none
               go p s _ (decided v i k) = absurd (stopped p v i.1 (went_on p s (rounds v) (omega (arith, (G.at p s).in_budget))))
@@ -165,24 +166,24 @@ module _ {z : Size} {goal : Goal} {t₀ : Next} {rs tg us hs ts : List ℕ} wher
               not_of (p.final q') (λ u. T_not (violated p n) (unviolated p s) (violated_by p (G.at p s).begins.arrays.in_range n (head q' s') u h))
 
     -- what the tests say: an answer
-    pub ends : {o : Outcome} (d : Decision) → Judged goal n budget t hd e o → o ≡ Ends d → Driven z goal t₀ rs tg us hs ts budget d hs' ts'
+    pub ends : {o : code.Option Decision} (d : Decision) → Judged goal n budget t hd e o → o ≡ Some d → Driven z goal t₀ rs tg us hs ts budget d hs' ts'
     ends d j i = go j.tested i
       where
         of_it : {d' : Decision} → d' ≡ d → Driven z goal t₀ rs tg us hs ts budget d' hs' ts' → Driven z goal t₀ rs tg us hs ts budget d hs' ts'
         of_it = subst (λ d. Driven z goal t₀ rs tg us hs ts budget d hs' ts')
 
-        go : {o : Outcome} → Tested n budget t.more j.seen o → o ≡ Ends d → Driven z goal t₀ rs tg us hs ts budget d hs' ts'
+        go : {o : code.Option Decision} → Tested n budget t.more j.seen o → o ≡ Some d → Driven z goal t₀ rs tg us hs ts budget d hs' ts'
         go (violates f) i = of_it (cc) (violated_now j.seen j.seen_is f)
         go (is_safe c x) i = of_it (cc) (safe_now j.seen j.seen_is c x)
         go (is_spent c x l) i = of_it (cc) (spent_now j.seen j.seen_is c x l)
         go (goes_on c x l) i = let z : ◌≡◌ {A = ℕ} 0 1 = cc in absurd (omega arith)
 
     -- or to go on: there is room for a round, which can be run
-    module _ {o : Outcome} (j : Judged goal n budget t hd e o) (i : o ≡ Goes) (d : Driving z goal t₀ rs tg us hs ts) where
-      on : (j.seen ≡ 0) × (t.more ≡ 0 → ⊥) × (n < budget)
+    module _ {o : code.Option Decision} (j : Judged goal n budget t hd e o) (i : o ≡ None) (d : Driving z goal t₀ rs tg us hs ts) where
+      on : (j.seen ≡ 0) × (t.more ≡ true) × (n < budget)
       on = go j.tested i
         where
-          go : {o : Outcome} → Tested n budget t.more j.seen o → o ≡ Goes → (j.seen ≡ 0) × (t.more ≡ 0 → ⊥) × (n < budget)
+          go : {o : code.Option Decision} → Tested n budget t.more j.seen o → o ≡ None → (j.seen ≡ 0) × (t.more ≡ true) × (n < budget)
           go (violates f) i = let z : ◌≡◌ {A = ℕ} 0 1 = cc in absurd (omega arith)
           go (is_safe c x) i = let z : ◌≡◌ {A = ℕ} 0 1 = cc in absurd (omega arith)
           go (is_spent c x l) i = let z : ◌≡◌ {A = ℕ} 0 1 = cc in absurd (omega arith)

@@ -1,14 +1,15 @@
 -- Members of sets: put in, taken out, joined; and what some member passes. Assumes nothing.
+use Rattle.std.specs.Prelude.{Option, Some, None}
 use mathlib.Core.Bool.{Bool, true, false, not, ◌&&◌, ◌||◌}
 use mathlib.Core.List.{List, [], ◌∷◌}
 use mathlib.Core.Logic.{◌⊎◌, inl, inr}
 use mathlib.Core.Path.{◌≡◌, refl, sym, ap, ap₂, ◌∙◌, subst, subst⁻¹}
-use Prim.Native.Nat.{ℕ, zero, suc, ◌+◌, ◌-◌, ◌*◌, ◌/◌, ◌%◌, ◌^◌, ◌<◌, ◌≤◌}
+use Prim.Native.Nat.{ℕ, zero, suc, ◌+◌, ◌*◌, ◌/◌, ◌%◌, ◌^◌, ◌<◌, ◌≤◌}
 use native.Mathlib.Nat.{div-add-mod', mod-lt, zero-lt-suc, div-lt_iff_lt-mul}
 use native.Mathlib.Omega.{arith}
 use native.Mathlib.Decide.{ℕ_discrete, dec_lt}
 use lib.Arith.{digits_div, digits_mod}
-use lib.Bits.{bit_and, bit_or}
+use lib.Bits.{bit_or}
 use lib.Dec.{T, eqb, eqb→eq}
 use lib.ListN.{length, length-set, get_or, set}
 use lib.Seq.{get_or-set_same, get_or-set_other}
@@ -19,9 +20,10 @@ use Rattle.product.proofs.Lists.{and_left, and_right, both, or_left, or_right, o
 use Rattle.bits.specs.Bit.{bit}
 use Rattle.bits.proofs.Bit.{bit_or_lem, bit_zero}
 use Rattle.bits.proofs.Set.{bit_set}
-use Rattle.bits.proofs.Lowest.{lowest, lowest_set, cleared, cleared_less}
-use Rattle.bits.proofs.Some.{some_of, of_some, low64}
-use Rattle.decide.specs.Sets.{member, chosen, among, With, weight, PickedIn, Picked, Joined, Put}
+use Rattle.bits.specs.Ones.{Lowest}
+use Rattle.bits.proofs.Lowest.{cleared_less}
+use Rattle.bits.proofs.Some.{some_of, of_some, bit_taken, bits_left}
+use Rattle.decide.specs.Sets.{member, chosen, among, With, weight, Taken, PickedIn, Picked, Joined, Put}
 
 sixty_four : 0 < 64
 sixty_four = zero-lt-suc 63
@@ -76,34 +78,31 @@ with_is w c long h = record { long = length-set w (c / 64) new ∙ long; is = λ
     at x (no y) = other_word w (c / 64) new in_w x y ∙ or_false (chosen w x) ∙ ap (λ b. chosen w x || b) (sym (apart c x y))
 
 -- the lowest of the first word that is not empty
-module _ (w : List ℕ) (k d : ℕ) (long : length w ≡ 4) (k-in : k < 4) (pos : 0 < d) (d-is : get_or w k 0 ≡ d) (small : d < 2 ^ 64) where
+module _ (w : List ℕ) (k : ℕ) (long : length w ≡ 4) (k-in : k < 4) {d i d' : ℕ} (t : Lowest d i d') (d-is : get_or w k 0 ≡ d) where
   abbrev r : ℕ
-  r = k * 64 + lowest d
-
-  low : lowest d < 64
-  low = low64 d pos small
+  r = k * 64 + i
 
   word_is : r / 64 ≡ k
-  word_is = digits_div k low
+  word_is = digits_div k t.below
 
-  place_is : r % 64 ≡ lowest d
-  place_is = digits_mod k low
+  place_is : r % 64 ≡ i
+  place_is = digits_mod k t.below
 
-  picked : Picked w (k * 64 + lowest d) (set w k (bit_and d (d - 1)))
+  pub taken : Taken w (k * 64 + i) (set w k d')
   unfolding chosen
-  picked = record {
-    long = length-set w k (bit_and d (d - 1)) ∙ long;
-    there = λ _. is_there;
-    less = λ _. lighter k k-in d-is;
-    rest = λ _ x. at x (ℕ_discrete k (x / 64));
-    none = λ h. absurd (h (omega (arith, low)));
+  taken = record {
+    small = omega (arith, t.below);
+    long = length-set w k d' ∙ long;
+    there = is_there;
+    less = lighter k k-in d-is;
+    rest = λ x. at x (ℕ_discrete k (x / 64));
   }
     where
       is_there : T (chosen w r)
-      is_there = subst⁻¹ T (ap₂ (λ i j. bit (get_or w i 0) j) word_is place_is ∙ ap (λ n. bit n (lowest d)) d-is) (lowest_set 64 d pos small)
+      is_there = subst⁻¹ T (ap₂ (λ i j. bit (get_or w i 0) j) word_is place_is ∙ ap (λ n. bit n i) d-is) (bit_taken t)
 
-      fewer : bit_and d (d - 1) < d
-      fewer = cleared_less d pos
+      fewer : d' < d
+      fewer = rw t.others (cleared_less d t.some_left)
 
       other : (k i n : ℕ) → (i ≡ k → ⊥) → get_or (set w k n) i 0 ≡ get_or w i 0
       other k i n h = get_or-set_other w k i n 0 h
@@ -111,38 +110,26 @@ module _ (w : List ℕ) (k d : ℕ) (long : length w ≡ 4) (k-in : k < 4) (pos 
       own : (k n : ℕ) → k < 4 → get_or (set w k n) k 0 ≡ n
       own k n h = get_or-set_same w k n 0 (omega (arith, long))
 
-      lighter : (k : ℕ) → k < 4 → get_or w k 0 ≡ d → weight (set w k (bit_and d (d - 1))) < weight w
-      lighter zero h e = let n = bit_and d (d - 1) in omega (arith, fewer, own 0 n h, other 0 1 n (λ y. omega arith), other 0 2 n (λ y. omega arith), other 0 3 n (λ y. omega arith))
-      lighter (suc zero) h e = let n = bit_and d (d - 1) in omega (arith, fewer, own 1 n h, other 1 0 n (λ y. omega arith), other 1 2 n (λ y. omega arith), other 1 3 n (λ y. omega arith))
-      lighter (suc (suc zero)) h e = let n = bit_and d (d - 1) in omega (arith, fewer, own 2 n h, other 2 0 n (λ y. omega arith), other 2 1 n (λ y. omega arith), other 2 3 n (λ y. omega arith))
-      lighter (suc (suc (suc zero))) h e = let n = bit_and d (d - 1) in omega (arith, fewer, own 3 n h, other 3 0 n (λ y. omega arith), other 3 1 n (λ y. omega arith), other 3 2 n (λ y. omega arith))
+      lighter : (k : ℕ) → k < 4 → get_or w k 0 ≡ d → weight (set w k d') < weight w
+      lighter zero h e = let n = d' in omega (arith, fewer, own 0 n h, other 0 1 n (λ y. omega arith), other 0 2 n (λ y. omega arith), other 0 3 n (λ y. omega arith))
+      lighter (suc zero) h e = let n = d' in omega (arith, fewer, own 1 n h, other 1 0 n (λ y. omega arith), other 1 2 n (λ y. omega arith), other 1 3 n (λ y. omega arith))
+      lighter (suc (suc zero)) h e = let n = d' in omega (arith, fewer, own 2 n h, other 2 0 n (λ y. omega arith), other 2 1 n (λ y. omega arith), other 2 3 n (λ y. omega arith))
+      lighter (suc (suc (suc zero))) h e = let n = d' in omega (arith, fewer, own 3 n h, other 3 0 n (λ y. omega arith), other 3 1 n (λ y. omega arith), other 3 2 n (λ y. omega arith))
       lighter (suc (suc (suc (suc k)))) h e = absurd (omega arith)
 
-      at : (x : ℕ) → Dec (k ≡ x / 64) → chosen (set w k (bit_and d (d - 1))) x ≡ chosen w x && not (eqb x r)
+      at : (x : ℕ) → Dec (k ≡ x / 64) → chosen (set w k d') x ≡ chosen w x && not (eqb x r)
       at x (yes y) =
-          same_word w k (bit_and d (d - 1)) (omega (arith, long)) x y ∙ cleared 64 d (x % 64) pos small
+          same_word w k d' (omega (arith, long)) x y ∙ bits_left t (x % 64)
           ∙ ap₂ (λ n b. bit n (x % 64) && not b) (sym d-is ∙ ap (λ i. get_or w i 0) y)
           (ap (eqb (x % 64)) (sym place_is) ∙ place x r (sym y ∙ sym word_is))
       at x (no y) =
-          other_word w k (bit_and d (d - 1)) (omega (arith, long)) x y
+          other_word w k d' (omega (arith, long)) x y
           ∙ and_true (chosen w x) ∙ ap (λ b. chosen w x && not b) (sym (apart x r (λ e. y (sym word_is ∙ sym e))))
 
-  pub picked_in : {j : ℕ} → j ≡ lowest d → PickedIn w k (k * 64 + j) (set w k (bit_and d (d - 1)))
-  picked_in e = rw e (record { some = λ _. picked; none = λ h. absurd (h (omega (arith, low))) })
-
-pub picked_empty : (w : List ℕ) {k : ℕ} → get_or w k 0 ≡ 0 → PickedIn w k 256 w
-picked_empty w z = record { some = λ h. absurd (omega arith); none = λ _. (refl, z) }
-
 -- no word is left
-picked_none : (w : List ℕ) (r : ℕ) → (r < 256 → ⊥) → length w ≡ 4 → ((k : ℕ) → k < 4 → get_or w k 0 ≡ 0) → Picked w r w
+none_left : (w : List ℕ) → length w ≡ 4 → ((k : ℕ) → k < 4 → get_or w k 0 ≡ 0) → (x : ℕ) → chosen w x ≡ false
 unfolding chosen
-picked_none w r past_end long word = record {
-  long = long;
-  there = λ h. absurd (past_end h);
-  less = λ h. absurd (past_end h);
-  rest = λ h. absurd (past_end h);
-  none = λ _ x. at x (dec_lt (x / 64) 4);
-}
+none_left w long word x = at x (dec_lt (x / 64) 4)
   where
     at : (x : ℕ) → Dec (x / 64 < 4) → chosen w x ≡ false
     at x (yes l) = ap (λ n. bit n (x % 64)) (word (x / 64) l) ∙ bit_zero (x % 64)
@@ -166,24 +153,20 @@ module _ {w₀ : List ℕ} where
     pub passed_long : length w₀ ≡ 4 → length w ≡ 4
     passed_long n = ap length p.same ∙ n
 
-    module _ {r : ℕ} {w' : List ℕ} (i : PickedIn w k r w') where
-      pub passed_next : 256 ≤ r → Passed w₀ (suc k) w'
-      passed_next l = let (e, z) = i.none (λ h. omega arith) in record { same = e ∙ p.same; empty = λ j h. at j h (ℕ_discrete j k) z }
-        where
-          at : (j : ℕ) → j < suc k → Dec (j ≡ k) → get_or w k 0 ≡ 0 → get_or w₀ j 0 ≡ 0
-          at j h (yes e) z = ap (λ j. get_or w₀ j 0) e ∙ ap (λ w. get_or w k 0) (sym p.same) ∙ z
-          at j h (no e) z = p.empty j (omega arith)
+    pub passed_next : {w' : List ℕ} → (w' ≡ w) × (get_or w k 0 ≡ 0) → Passed w₀ (suc k) w'
+    passed_next (s, z) = record { same = s ∙ p.same; empty = λ j h. at j h (ℕ_discrete j k) z }
+      where
+        at : (j : ℕ) → j < suc k → Dec (j ≡ k) → get_or w k 0 ≡ 0 → get_or w₀ j 0 ≡ 0
+        at j h (yes e) z = ap (λ j. get_or w₀ j 0) e ∙ ap (λ w. get_or w k 0) (sym p.same) ∙ z
+        at j h (no e) z = p.empty j (omega arith)
 
-      pub passed_pick : r < 256 → Picked w₀ r w'
-      passed_pick h = subst (λ w. Picked w r w') p.same (i.some h)
+    pub passed_pick : {r : ℕ} {w' : List ℕ} → Taken w r w' → Taken w₀ r w'
+    passed_pick {r} {w'} = subst (λ w. Taken w r w') p.same
 
   -- the last word
-  pub passed_last : {w w' : List ℕ} {r : ℕ} → length w₀ ≡ 4 → Passed w₀ 3 w → PickedIn w 3 r w' → Picked w₀ r w'
-  passed_last {w} {w'} {r} n p i = go (dec_lt r 256)
-    where
-      go : Dec (r < 256) → Picked w₀ r w'
-      go (yes h) = passed_pick p i h
-      go (no h) = let q = passed_next p i (omega arith) in subst⁻¹ (Picked w₀ r) q.same (picked_none w₀ r h n (λ j l. q.empty j (omega arith)))
+  pub passed_last : {w : List ℕ} (w' : List ℕ) (o : Option ℕ) → length w₀ ≡ 4 → Passed w₀ 3 w → PickedIn w 3 o w' → Picked w₀ o w'
+  passed_last w' (Some i) n p t = passed_pick p t
+  passed_last w' None n p t = let q = passed_next p t in none_left w₀ n (λ j l. q.empty j (omega arith))
 
 -- a set joined with set number s, word by word: the first k are done
 pub record JoinedTo (w l : List ℕ) (s k : ℕ) (w' : List ℕ) : Type 0 where
@@ -260,24 +243,24 @@ of_among w f t = let (r, h, u) = of_some 256 (λ r. chosen w r && f r) t in (r, 
 
 module _ (w : List ℕ) (f : ℕ → Bool) where
   -- the member that was picked, and the others
-  pub among_picked : (r : ℕ) (w' : List ℕ) → r < 256 → Picked w r w' → among w f ≡ f r || among w' f
-  among_picked r w' h p = same_truth (among w f) (f r || among w' f) to from
+  pub among_picked : {r : ℕ} {w' : List ℕ} → Taken w r w' → among w f ≡ f r || among w' f
+  among_picked {r} {w'} p = same_truth (among w f) (f r || among w' f) to from
     where
       to : T (among w f) → T (f r || among w' f)
       to t = let (x, l, a, b) = of_among w f t in go x l a b (ℕ_discrete x r)
         where
           go : (x : ℕ) → x < 256 → T (chosen w x) → T (f x) → Dec (x ≡ r) → T (f r || among w' f)
           go x l a b (yes e) = or_left (f r) (among w' f) (subst (λ x. T (f x)) e b)
-          go x l a b (no e) = or_right (f r) (among w' f) (among_of w' f x l (subst⁻¹ T (p.rest h x) (both (chosen w x) (not (eqb x r)) a (rw (ne_eqb x r e) tt))) b)
+          go x l a b (no e) = or_right (f r) (among w' f) (among_of w' f x l (subst⁻¹ T (p.rest x) (both (chosen w x) (not (eqb x r)) a (rw (ne_eqb x r e) tt))) b)
 
       from : T (f r || among w' f) → T (among w f)
       from t = go (or_cases (f r) (among w' f) t)
         where
           go : T (f r) ⊎ T (among w' f) → T (among w f)
-          go (inl u) = among_of w f r h (p.there h) u
+          go (inl u) = among_of w f r p.small p.there u
           go (inr u) =
               let (x, l, a, b) = of_among w' f u in
-              among_of w f x l (and_left (chosen w x) (not (eqb x r)) (subst T (p.rest h x) a)) b
+              among_of w f x l (and_left (chosen w x) (not (eqb x r)) (subst T (p.rest x) a)) b
 
   -- and where there is none
   pub among_none : ((x : ℕ) → chosen w x ≡ false) → among w f ≡ false

@@ -5,7 +5,7 @@ use mathlib.Core.Path.{◌≡◌, refl, sym, ap, ap₂, ◌∙◌, subst, subst�
 use Prim.Native.Nat.{ℕ, zero, suc, ◌+◌, ◌*◌, ◌<◌}
 use native.Mathlib.Nat.{zero-add}
 use native.Mathlib.Omega.{arith}
-use lib.Dec.{T, eqb, eqb-suc-zero, eqb-suc-suc}
+use lib.Dec.{T, eqb}
 use lib.ListN.{get_or}
 use Rattle.product.specs.Lists.{any}
 use Rattle.product.specs.Product.{Product, InRange}
@@ -26,7 +26,7 @@ use Rattle.relations.proofs.Classes.{lands_by}
 use Rattle.relations.proofs.Quiet.{made_next}
 use Rattle.relations.proofs.Next.{ranks_next}
 use Rattle.steps.specs.Steps.{symbol_of}
-use Rattle.steps.specs.Rows.{kind_at, class_at, over_at, under_at, rule_by}
+use Rattle.steps.specs.Rows.{kind_of, kind_at, class_at, over_at, under_at, rule_by}
 use Rattle.decide.specs.Sets.{chosen}
 use Rattle.decide.specs.Stamp.{of_heads, view_of}
 use Rattle.decide.specs.Take.{Took}
@@ -76,14 +76,13 @@ module _ (p : Product) (R : InRange p) (Q : ℕ) (rs tg : List ℕ) (F : Frame p
 
     -- by the kind of the rule
     by_kind : (kind g₀ g1 g2 : ℕ) (a b : ℕ → Bool) → ((x : ℕ) → a x ≡ b x) → ((x : ℕ) → T (b x) → x < Q)
-        → (g x : ℕ) → shown_by kind g1 g2 e a g x ≡ uncovers p.states h (rule_by kind g₀ g1 g2) b x g
+        → (g x : ℕ) → shown_by (kind_of kind) g1 g2 e a g x ≡ uncovers p.states h (rule_by kind g₀ g1 g2) b x g
     by_kind zero g₀ g1 g2 a b same inside g x = refl
     by_kind (suc zero) g₀ g1 g2 a b same inside g x = ap (λ c. eqb g1 g && c) (same x)
     by_kind (suc (suc j)) g₀ g1 g2 a b same inside g x =
-        rw (eqb-suc-zero (suc j), eqb-suc-suc (suc j) 0, eqb-suc-zero j)
-        (ap₂ ◌||◌ (ap (λ c. eqb g1 g && c) (same x)) (ap (λ c. eqb g2 g && c)
+        ap₂ ◌||◌ (ap (λ c. eqb g1 g && c) (same x)) (ap (λ c. eqb g2 g && c)
         (some_alike 8 (λ k. a k && mats e g1 k x) (λ k. b k && h (triple k g1 x)) (λ k _. ap₂ ◌&&◌ (same k) (triples_are g1 k x))
-        ∙ some_states (λ k. b k && h (triple k g1 x)) (λ k t. inside k (and_left (b k) (h (triple k g1 x)) t)))))
+        ∙ some_states (λ k. b k && h (triple k g1 x)) (λ k t. inside k (and_left (b k) (h (triple k g1 x)) t))))
 
     shown_is : (r g x : ℕ) → r < p.rules → shown rs tg e hd r g x ≡ uncovers p.states h (p.rule r) (lands p h r) x g
     unfolding shown

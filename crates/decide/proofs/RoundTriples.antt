@@ -4,7 +4,7 @@ use mathlib.Core.List.{List}
 use mathlib.Core.Path.{◌≡◌, refl, sym, ap, ap₂, ◌∙◌, subst, subst⁻¹}
 use Prim.Native.Nat.{ℕ, zero, suc, ◌<◌}
 use native.Mathlib.Omega.{arith}
-use lib.Dec.{T, eqb, eqb→eq, eqb_refl, eqb-suc-zero, eqb-suc-suc}
+use lib.Dec.{T, eqb, eqb→eq, eqb_refl}
 use lib.ListN.{get_or}
 use Rattle.product.specs.Lists.{up_to, ◌∈◌}
 use Rattle.product.specs.Product.{Rule, exit, direct, call, symbol, Product, InRange}
@@ -28,7 +28,7 @@ use Rattle.relations.proofs.Quiet.{made_next}
 use Rattle.relations.proofs.Next.{ranks_next}
 use Rattle.steps.specs.Steps.{symbol_of}
 use Rattle.steps.proofs.Laws.{symbol_low}
-use Rattle.steps.specs.Rows.{kind_at, class_at, over_at, under_at, rule_by}
+use Rattle.steps.specs.Rows.{kind_of, kind_at, class_at, over_at, under_at, rule_by}
 use Rattle.decide.specs.Gather.{rest_of, rest_at, added, added_by, Gains}
 use Rattle.decide.specs.Stamp.{of_triples, view_of}
 use Rattle.decide.specs.Take.{AllFit, Took, given_by, from_class, from_classes}
@@ -69,14 +69,12 @@ module _ (p : Product) (R : InRange p) (Q : ℕ) (rs tg : List ℕ) (F : Frame p
     triple_in_lem q g x t = let (i, _, j) = held_within p R n (triple q g x) t in (states_in q i, states_in x j)
 
     -- what is run after the step
-    by_kind : (kind g g1 g2 k x : ℕ) → k < 8 → x < 8 → mat (rest_of kind g1 g2 e) k x ≡ rest p.states h (rule_by kind g g1 g2) k x
+    by_kind : (kind g g1 g2 k x : ℕ) → k < 8 → x < 8 → mat (rest_of (kind_of kind) g1 g2 e) k x ≡ rest p.states h (rule_by kind g g1 g2) k x
     unfolding rest_of
     by_kind zero g g1 g2 k x hk hx = mat_in 0x8040201008040201 k x hk hx ∙ identity_at k x hk hx
     by_kind (suc zero) g g1 g2 k x hk hx = held_is g1 k x
     by_kind (suc (suc j)) g g1 g2 k x hk hx =
-        ap (λ z. mat (cond z 0x8040201008040201 (cond (eqb (suc (suc j)) 1) (get_or e g1 0) (multiplied (get_or e g1 0) (get_or e g2 0)))) k x) (eqb-suc-zero (suc j))
-        ∙ ap (λ z. mat (cond z (get_or e g1 0) (multiplied (get_or e g1 0) (get_or e g2 0))) k x) (eqb-suc-suc (suc j) 0 ∙ eqb-suc-zero j)
-        ∙ mat_in (multiplied (get_or e g1 0) (get_or e g2 0)) k x hk hx
+        mat_in (multiplied (get_or e g1 0) (get_or e g2 0)) k x hk hx
         ∙ multiplied_at (get_or e g1 0) (get_or e g2 0) k x hk hx
         ∙ same_truth (some 8 (λ m. entry (get_or e g1 0) k m && entry (get_or e g2 0) m x)) (followed p.states (erased h g1) (erased h g2) k x) to from
       where

@@ -3,13 +3,13 @@ use mathlib.Core.Bool.{Bool, true, false, not, ◌&&◌, ◌||◌}
 use mathlib.Core.List.{List}
 use mathlib.Core.Logic.{◌⊎◌, inl, inr}
 use mathlib.Core.Path.{◌≡◌, refl, sym, ap, ap₂, ◌∙◌, subst, subst⁻¹}
-use Prim.Native.Nat.{ℕ, zero, suc, ◌+◌, ◌-◌, ◌*◌, ◌%◌, ◌^◌, ◌<◌}
+use Prim.Native.Nat.{ℕ, zero, suc, ◌+◌, ◌*◌, ◌%◌, ◌^◌, ◌<◌}
 use native.Mathlib.Nat.{zero-add}
 use native.Mathlib.Omega.{arith}
 use native.Mathlib.Decide.{ℕ_discrete}
-use lib.Dec.{T, eqb, eqb→eq, eqb-suc-zero, eqb-suc-suc}
+use lib.Dec.{T, eqb, eqb→eq}
 use borrow.Author.Tests.{eq-eqb, ne_eqb, lt-ltb}
-use lib.Bits.{bit_and, bit_or}
+use lib.Bits.{bit_or}
 use lib.ListN.{length, length-set, get_or, set}
 use lib.Seq.{get_or-set_same, get_or-set_other}
 use Rattle.product.proofs.Lists.{and_left, and_right, or_cases}
@@ -20,12 +20,15 @@ use Rattle.steps.specs.Steps.{class_of, symbol_of, states_after}
 use Rattle.bits.specs.Matrix.{mat, mats, some, passed, image}
 use Rattle.bits.proofs.Bit.{bit_or_lem, bit_zero}
 use Rattle.bits.proofs.Set.{bit_pow, one_shifted}
-use Rattle.bits.proofs.Lowest.{lowest, lowest_set, cleared, cleared_less}
+use Rattle.bits.specs.Ones.{Lowest}
+use Rattle.bits.proofs.Some.{bit_taken, bits_left}
 use Rattle.bits.proofs.Image.{image_at}
 use Rattle.steps.specs.declared.Row.{Row}
 use Rattle.steps.proofs.Rows.{class_at_lem}
-use Rattle.steps.specs.Rows.{kind_at, class_at, over_at, under_at, RowAt}
-use Rattle.decide.specs.Sets.{Picked}
+use Rattle.steps.specs.declared.Kind.{Kind}
+use Rattle.steps.specs.declared.Kind.TheVariants.{Exit, Direct, Call}
+use Rattle.steps.specs.Rows.{kind_of, kind_at, class_at, over_at, under_at, RowAt}
+use Rattle.decide.specs.Sets.{chosen, Taken}
 use Rattle.decide.specs.Stamp.{of_heads, Entries, alone}
 use Rattle.decide.specs.Gather.{Empty}
 use Rattle.decide.specs.Take.{Took, Room, Fits}
@@ -105,55 +108,51 @@ off_and true = refl
 off_and false = refl
 
 -- a rule whose steps end nowhere
-nowhere : (kind over under : ℕ) (e : List ℕ) (l : ℕ → Bool) → ((x : ℕ) → l x ≡ false) → (g x : ℕ) → shown_by kind over under e l g x ≡ false
-nowhere zero over under e l h g x = refl
-nowhere (suc zero) over under e l h g x = ap (λ b. eqb over g && b) (h x) ∙ off_and (eqb over g)
-nowhere (suc (suc j)) over under e l h g x =
-    rw (eqb-suc-zero (suc j), eqb-suc-suc (suc j) 0, eqb-suc-zero j)
-    (ap₂ ◌||◌ (ap (λ b. eqb over g && b) (h x) ∙ off_and (eqb over g))
-    (ap (λ b. eqb under g && b) (some_off 8 (λ k. l k && mats e over k x) (λ k. ap (λ b. b && mats e over k x) (h k))) ∙ off_and (eqb under g)))
+nowhere : (kind : Kind) (over under : ℕ) (e : List ℕ) (l : ℕ → Bool) → ((x : ℕ) → l x ≡ false) → (g x : ℕ) → shown_by kind over under e l g x ≡ false
+nowhere Exit over under e l h g x = refl
+nowhere Direct over under e l h g x = ap (λ b. eqb over g && b) (h x) ∙ off_and (eqb over g)
+nowhere Call over under e l h g x =
+    ap₂ ◌||◌ (ap (λ b. eqb over g && b) (h x) ∙ off_and (eqb over g))
+    (ap (λ b. eqb under g && b) (some_off 8 (λ k. l k && mats e over k x) (λ k. ap (λ b. b && mats e over k x) (h k))) ∙ off_and (eqb under g))
 
 -- one rule, by its row
 module _ {rs : List ℕ} {i : ℕ} {row : Row} (at : RowAt rs i row) (tg e hd nh : List ℕ) where
   abbrev l : ℕ → Bool
   l = bit (landing tg hd (class_at rs i))
 
-  pub show_exit : row.kind ≡ 0 → Shows (shown rs tg e hd i) nh 0 nh
+  pub show_exit : row.kind ≡ Exit → Shows (shown rs tg e hd i) nh 0 nh
   unfolding shown
-  show_exit k = shows_none (shown rs tg e hd i) nh (λ g x. rw (eq-eqb (kind_at rs i) 0 (sym at.kind_is ∙ k)))
+  show_exit k = shows_none (shown rs tg e hd i) nh (λ g x. rw (sym at.kind_is ∙ k))
 
-  module _ (k : row.kind ≡ 0 → ⊥) {v : ℕ} (v-is : v ≡ landing tg hd (class_at rs i)) where
+  module _ {v : ℕ} (v-is : v ≡ landing tg hd (class_at rs i)) where
     lands : (x : ℕ) → bit v x ≡ l x
     lands x = ap (λ n. bit n x) v-is
-
-    not_exit : eqb (kind_at rs i) 0 ≡ false
-    not_exit = ne_eqb (kind_at rs i) 0 (λ z. k (at.kind_is ∙ z))
 
     pub show_none : v ≡ 0 → Shows (shown rs tg e hd i) nh 0 nh
     unfolding shown
     show_none z =
         shows_none (shown rs tg e hd i) nh
-        (nowhere (kind_at rs i) (over_at rs i) (under_at rs i) e l (λ x. sym (lands x) ∙ ap (λ n. bit n x) z ∙ bit_zero x))
+        (nowhere (kind_of (kind_at rs i)) (over_at rs i) (under_at rs i) e l (λ x. sym (lands x) ∙ ap (λ n. bit n x) z ∙ bit_zero x))
 
     module _ {t : ℕ} {nh' : List ℕ} (s : Shows (λ g x. eqb row.over g && bit v x) nh t nh') where
       on_top : Shows (λ g x. eqb (over_at rs i) g && l x) nh t nh'
       on_top = shows_alike (λ g x. eqb row.over g && bit v x) (λ g x. eqb (over_at rs i) g && l x) (λ g x. ap₂ (λ h b. eqb h g && b) at.over_is (lands x)) s
 
-      pub show_direct : row.kind ≡ 1 → Shows (shown rs tg e hd i) nh t nh'
+      pub show_direct : row.kind ≡ Direct → Shows (shown rs tg e hd i) nh t nh'
       unfolding shown
       show_direct j =
-          shows_alike (λ g x. eqb (over_at rs i) g && l x) (shown rs tg e hd i) (λ g x. rw (not_exit, eq-eqb (kind_at rs i) 1 (sym at.kind_is ∙ j))) on_top
+          shows_alike (λ g x. eqb (over_at rs i) g && l x) (shown rs tg e hd i) (λ g x. rw (sym at.kind_is ∙ j)) on_top
 
-      module _ (j : row.kind ≡ 1 → ⊥) where
-        is_call : eqb (kind_at rs i) 1 ≡ false
-        is_call = ne_eqb (kind_at rs i) 1 (λ z. j (at.kind_is ∙ z))
+      module _ (j : row.kind ≡ Call) where
+        is_call : kind_of (kind_at rs i) ≡ Call
+        is_call = sym at.kind_is ∙ j
 
         -- a call whose g1 has no triple
         pub show_entered : get_or e row.over 0 ≡ 0 → Shows (shown rs tg e hd i) nh t nh'
         unfolding shown
         show_entered z =
             shows_alike (λ g x. eqb (over_at rs i) g && l x) (shown rs tg e hd i)
-            (λ g x. rw (not_exit, is_call) (or_false (eqb (over_at rs i) g && l x) ∙ ap (λ b. (eqb (over_at rs i) g && l x) || b) (sym (none g x)))) on_top
+            (λ g x. rw is_call (or_false (eqb (over_at rs i) g && l x) ∙ ap (λ b. (eqb (over_at rs i) g && l x) || b) (sym (none g x)))) on_top
           where
             no_triple : (q x : ℕ) → mats e (over_at rs i) q x ≡ false
             no_triple q x = mat_none (get_or e (over_at rs i) 0) q x (ap (λ g. get_or e g 0) (sym at.over_is) ∙ z)
@@ -178,7 +177,7 @@ module _ {rs : List ℕ} {i : ℕ} {row : Row} (at : RowAt rs i row) (tg e hd nh
           unfolding shown
           show_call =
               shows_alike (λ g x. (eqb (over_at rs i) g && l x) || (eqb (under_at rs i) g && some 8 (λ k. l k && mats e (over_at rs i) k x))) (shown rs tg e hd i)
-              (λ g x. rw (not_exit, is_call)) (shows_then on_top under)
+              (λ g x. rw is_call) (shows_then on_top under)
 
 -- the rules of a set: what is left to show, with the rows as they are, makes what was asked
 pub record Left (rs tg e hd w nh₀ left : List ℕ) (t : ℕ) (nh : List ℕ) : Type 0 where
@@ -187,22 +186,22 @@ pub record Left (rs tg e hd w nh₀ left : List ℕ) (t : ℕ) (nh : List ℕ) :
   pub covers : RowsCover t nh
 
 module _ {rs tg e hd w nh₀ : List ℕ} where
-  pub left_first : length w ≡ 4 → Empty 32 nh₀ → Left rs tg e hd w nh₀ w 0 nh₀
-  left_first h z = record {
+  pub left_first : {left : List ℕ} → left ≡ w → length w ≡ 4 → Empty 32 nh₀ → Left rs tg e hd w nh₀ left 0 nh₀
+  left_first i h z = rw i (record {
     long = h;
     rows = λ g x. ap (λ n. bit n x || shown_all rs tg e hd w g x) (z.empty g) ∙ ap (λ b. b || shown_all rs tg e hd w g x) (bit_zero x);
     covers = record { long = z.long; low = λ g t. absurd (subst T (bit_zero g) t); empty = λ g _. z.empty g };
-  }
+  })
 
-  pub left_next : {left left' nh nh' : List ℕ} {t t' i : ℕ} → i < 256 → Picked left i left' → Left rs tg e hd w nh₀ left t nh
+  pub left_next : {left left' nh nh' : List ℕ} {t t' i : ℕ} → Taken left i left' → Left rs tg e hd w nh₀ left t nh
       → Shows (shown rs tg e hd i) nh t' nh' → Left rs tg e hd w nh₀ left' (bit_or t t') nh'
   unfolding shown_all
-  left_next {left} {left'} {nh} {nh'} {t} {t'} {i} h p l s = record {
+  left_next {left} {left'} {nh} {nh'} {t} {t'} {i} p l s = record {
     long = p.long;
     rows = λ g x.
         ap (λ b. b || shown_all rs tg e hd left' g x) (s.rows g x)
         ∙ sym (or_assoc (bit (get_or nh g 0) x) (shown rs tg e hd i g x) (shown_all rs tg e hd left' g x))
-        ∙ ap (λ b. bit (get_or nh g 0) x || b) (sym (among_picked left (λ i. shown rs tg e hd i g x) i left' h p))
+        ∙ ap (λ b. bit (get_or nh g 0) x || b) (sym (among_picked left (λ i. shown rs tg e hd i g x) p))
         ∙ l.rows g x;
     covers = record {
       long = s.as_long ∙ l.covers.long;
@@ -215,17 +214,16 @@ module _ {rs tg e hd w nh₀ : List ℕ} where
       go g (inl x) = l.covers.low g x
       go g (inr x) = s.low g x
 
-  pub left_last : {left left' nh : List ℕ} {t i : ℕ} → (i < 256 → ⊥) → Picked left i left' → Left rs tg e hd w nh₀ left t nh
+  pub left_last : {left nh : List ℕ} {t : ℕ} → ((r : ℕ) → chosen left r ≡ false) → Left rs tg e hd w nh₀ left t nh
       → ShowsAll (shown_all rs tg e hd w) t nh
   unfolding shown_all
-  left_last {left} {left'} {nh} h p l = record {
-    rows = λ g x. or_false (bit (get_or nh g 0) x) ∙ ap (λ b. bit (get_or nh g 0) x || b) (sym (among_none left (λ i. shown rs tg e hd i g x) (p.none h))) ∙ l.rows g x;
+  left_last {left} {nh} p l = record {
+    rows = λ g x. or_false (bit (get_or nh g 0) x) ∙ ap (λ b. bit (get_or nh g 0) x || b) (sym (among_none left (λ i. shown rs tg e hd i g x) p)) ∙ l.rows g x;
     covers = l.covers;
   }
 
 -- the rows of a set, taken in one after another
 pub record RowsLeft (z : Size) (k : ℕ) (nh₀ hd₀ hs₀ : List ℕ) (d w : ℕ) (nh hd hs : List ℕ) : Type 0 where
-  pub small : d < 2 ^ 64
   pub low : (g : ℕ) → T (bit d g) → g < 32
   pub long : length nh ≡ 32
   pub done : Entries
@@ -235,9 +233,8 @@ pub record RowsLeft (z : Size) (k : ℕ) (nh₀ hd₀ hs₀ : List ℕ) (d w : �
   pub gone : (g : ℕ) → bit d g ≡ false → get_or nh g 0 ≡ 0
 
 module _ {z : Size} {k : ℕ} {nh₀ hd₀ hs₀ : List ℕ} where
-  pub rows_first : {t : ℕ} → t < 2 ^ 64 → RowsCover t nh₀ → RowsLeft z k nh₀ hd₀ hs₀ t 0 nh₀ hd₀ hs₀
-  rows_first {t} h c = record {
-    small = h;
+  pub rows_first : {d t : ℕ} → d ≡ t → RowsCover t nh₀ → RowsLeft z k nh₀ hd₀ hs₀ d 0 nh₀ hd₀ hs₀
+  rows_first {d} {t} e c = rw e (record {
     low = c.low;
     long = c.long;
     done = λ g q x. false;
@@ -245,52 +242,51 @@ module _ {z : Size} {k : ℕ} {nh₀ hd₀ hs₀ : List ℕ} where
     all = λ g q x. at g q x (bit t g) refl;
     same = λ g _. refl;
     gone = c.empty;
-  }
+  })
     where
       at : (g q x : ℕ) (b : Bool) → bit t g ≡ b → b && mats nh₀ g q x ≡ mats nh₀ g q x
       at g q x true e = refl
       at g q x false e = sym (mat_none (get_or nh₀ g 0) q x (c.empty g e))
 
-  module _ {d w : ℕ} {nh hd hs : List ℕ} (pos : 0 < d) (l : RowsLeft z k nh₀ hd₀ hs₀ d w nh hd hs) where
-    lowest_in : T (bit d (lowest d))
-    lowest_in = lowest_set 64 d pos l.small
+  module _ {d i d' w : ℕ} {nh hd hs : List ℕ} (taken : Lowest d i d') (l : RowsLeft z k nh₀ hd₀ hs₀ d w nh hd hs) where
+    i-in : T (bit d i)
+    i-in = bit_taken taken
 
-    pub row_low : lowest d < 32
-    row_low = l.low (lowest d) lowest_in
+    pub row_low : i < 32
+    row_low = l.low i i-in
 
-    pub row_fits : RowsFit z nh₀ → Fits of_heads z (lowest d) (get_or nh (lowest d) 0)
-    row_fits f = subst⁻¹ (λ n. Fits of_heads z (lowest d) n) (l.same (lowest d) lowest_in) (f (lowest d) row_low)
+    pub row_fits : RowsFit z nh₀ → Fits of_heads z i (get_or nh i 0)
+    row_fits f = subst⁻¹ (λ n. Fits of_heads z i n) (l.same i i-in) (f i row_low)
 
     pub rows_room : Room of_heads z hd₀ hs₀ → Room of_heads z hd hs
     rows_room = room_after l.took
 
-    rest : (g : ℕ) → bit (bit_and d (d - 1)) g ≡ bit d g && not (eqb g (lowest d))
-    rest g = cleared 64 d g pos l.small
+    rest : (g : ℕ) → bit d' g ≡ bit d g && not (eqb g i)
+    rest g = bits_left taken g
 
     off_not : (a b : Bool) → b ≡ false → a && not b ≡ false → a ≡ false
     off_not false b x y = refl
     off_not true false x y = absurd (subst T y tt)
     off_not true true x y = absurd (subst T x tt)
 
-    pub rows_next : {w' : ℕ} {hd' hs' : List ℕ} → Took of_heads z k (alone (lowest d) (get_or nh (lowest d) 0)) hd hs w' hd' hs'
-        → RowsLeft z k nh₀ hd₀ hs₀ (bit_and d (d - 1)) (bit_or w w') (set nh (lowest d) 0) hd' hs'
+    pub rows_next : {w' : ℕ} {hd' hs' : List ℕ} → Took of_heads z k (alone i (get_or nh i 0)) hd hs w' hd' hs'
+        → RowsLeft z k nh₀ hd₀ hs₀ d' (bit_or w w') (set nh i 0) hd' hs'
     rows_next {w'} {hd'} {hs'} t = record {
-      small = omega (arith, cleared_less d pos, l.small);
-      low = λ g u. l.low g (and_left (bit d g) (not (eqb g (lowest d))) (subst T (rest g) u));
-      long = length-set nh (lowest d) 0 ∙ l.long;
-      done = λ g q x. l.done g q x || alone (lowest d) (get_or nh (lowest d) 0) g q x;
+      low = λ g u. l.low g (and_left (bit d g) (not (eqb g i)) (subst T (rest g) u));
+      long = length-set nh i 0 ∙ l.long;
+      done = λ g q x. l.done g q x || alone i (get_or nh i 0) g q x;
       took = took_then l.took t;
-      all = λ g q x. at g q x (ℕ_discrete (lowest d) g);
+      all = λ g q x. at g q x (ℕ_discrete i g);
       same = λ g u.
-          let v : T (bit d g && not (eqb g (lowest d))) = subst T (rest g) u in
-          get_or-set_other nh (lowest d) g 0 0 (λ y. subst (λ b. T (not b)) (eq-eqb g (lowest d) y) (and_right (bit d g) (not (eqb g (lowest d))) v))
-          ∙ l.same g (and_left (bit d g) (not (eqb g (lowest d))) v);
-      gone = λ g u. empty g (sym (rest g) ∙ u) (ℕ_discrete g (lowest d));
+          let v : T (bit d g && not (eqb g i)) = subst T (rest g) u in
+          get_or-set_other nh i g 0 0 (λ y. subst (λ b. T (not b)) (eq-eqb g i y) (and_right (bit d g) (not (eqb g i)) v))
+          ∙ l.same g (and_left (bit d g) (not (eqb g i)) v);
+      gone = λ g u. empty g (sym (rest g) ∙ u) (ℕ_discrete g i);
     }
       where
-        empty : (g : ℕ) → bit d g && not (eqb g (lowest d)) ≡ false → Dec (g ≡ lowest d) → get_or (set nh (lowest d) 0) g 0 ≡ 0
-        empty g u (yes y) = ap (λ g. get_or (set nh (lowest d) 0) g 0) y ∙ get_or-set_same nh (lowest d) 0 0 (omega (arith, row_low, l.long))
-        empty g u (no y) = get_or-set_other nh (lowest d) g 0 0 y ∙ l.gone g (off_not (bit d g) (eqb g (lowest d)) (ne_eqb g (lowest d) y) u)
+        empty : (g : ℕ) → bit d g && not (eqb g i) ≡ false → Dec (g ≡ i) → get_or (set nh i 0) g 0 ≡ 0
+        empty g u (yes y) = ap (λ g. get_or (set nh i 0) g 0) y ∙ get_or-set_same nh i 0 0 (omega (arith, row_low, l.long))
+        empty g u (no y) = get_or-set_other nh i g 0 0 y ∙ l.gone g (off_not (bit d g) (eqb g i) (ne_eqb g i y) u)
 
         cut : (a b c : Bool) → a || (c && b) ≡ b → T c → (a || b) || false ≡ b
         cut true b true x t = x
@@ -300,18 +296,18 @@ module _ {z : Size} {k : ℕ} {nh₀ hd₀ hs₀ : List ℕ} where
         cut false true false x t = elim t [ ]
         cut true b false x t = elim t [ ]
 
-        at : (g q x : ℕ) → Dec (lowest d ≡ g)
-            → (l.done g q x || alone (lowest d) (get_or nh (lowest d) 0) g q x) || (bit (bit_and d (d - 1)) g && mats nh₀ g q x) ≡ mats nh₀ g q x
+        at : (g q x : ℕ) → Dec (i ≡ g)
+            → (l.done g q x || alone i (get_or nh i 0) g q x) || (bit d' g && mats nh₀ g q x) ≡ mats nh₀ g q x
         at g q x (yes y) =
-            subst (λ g. (l.done g q x || alone (lowest d) (get_or nh (lowest d) 0) g q x) || (bit (bit_and d (d - 1)) g && mats nh₀ g q x) ≡ mats nh₀ g q x) y
-            (ap₂ (λ a b. (l.done (lowest d) q x || a) || (b && mats nh₀ (lowest d) q x))
-            (ap (λ b. b && mat (get_or nh (lowest d) 0) q x) (eq-eqb (lowest d) (lowest d) refl) ∙ ap (λ n. mat n q x) (l.same (lowest d) lowest_in))
-            (rest (lowest d) ∙ ap (λ b. bit d (lowest d) && not b) (eq-eqb (lowest d) (lowest d) refl) ∙ off_and (bit d (lowest d)))
-            ∙ cut (l.done (lowest d) q x) (mats nh₀ (lowest d) q x) (bit d (lowest d)) (l.all (lowest d) q x) lowest_in)
+            subst (λ g. (l.done g q x || alone i (get_or nh i 0) g q x) || (bit d' g && mats nh₀ g q x) ≡ mats nh₀ g q x) y
+            (ap₂ (λ a b. (l.done i q x || a) || (b && mats nh₀ i q x))
+            (ap (λ b. b && mat (get_or nh i 0) q x) (eq-eqb i i refl) ∙ ap (λ n. mat n q x) (l.same i i-in))
+            (rest i ∙ ap (λ b. bit d i && not b) (eq-eqb i i refl) ∙ off_and (bit d i))
+            ∙ cut (l.done i q x) (mats nh₀ i q x) (bit d i) (l.all i q x) i-in)
         at g q x (no y) =
             ap₂ (λ a b. (l.done g q x || a) || (b && mats nh₀ g q x))
-            (ap (λ b. b && mat (get_or nh (lowest d) 0) q x) (ne_eqb (lowest d) g y))
-            (rest g ∙ ap (λ b. bit d g && not b) (ne_eqb g (lowest d) (λ e. y (sym e))) ∙ and_on (bit d g))
+            (ap (λ b. b && mat (get_or nh i 0) q x) (ne_eqb i g y))
+            (rest g ∙ ap (λ b. bit d g && not b) (ne_eqb g i (λ e. y (sym e))) ∙ and_on (bit d g))
             ∙ ap (λ b. b || (bit d g && mats nh₀ g q x)) (sym (or_false (l.done g q x))) ∙ l.all g q x
           where
             and_on : (a : Bool) → a && true ≡ a

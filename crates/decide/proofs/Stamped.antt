@@ -1,8 +1,8 @@
 -- One bit of a matrix stamped, and then the rest. Assumes nothing.
-use mathlib.Core.Bool.{Bool, true, false, cond, not, ◌&&◌, and-true}
+use mathlib.Core.Bool.{Bool, true, false, cond, ◌&&◌, and-true}
 use mathlib.Core.List.{List, []}
 use mathlib.Core.Path.{◌≡◌, refl, sym, ap, ap₂, ◌∙◌, subst, subst⁻¹, fun_ext}
-use Prim.Native.Nat.{ℕ, ◌+◌, ◌-◌, ◌*◌, ◌/◌, ◌%◌, ◌^◌, ◌<◌, ◌≤◌}
+use Prim.Native.Nat.{ℕ, ◌+◌, ◌*◌, ◌/◌, ◌%◌, ◌^◌, ◌<◌, ◌≤◌}
 use native.Mathlib.Nat.{div-add-mod', mod-lt, zero-lt-suc, zero-add, div-lt_iff_lt-mul, mul_comm, mul_assoc, add-mul}
 use native.Mathlib.Omega.{arith}
 use native.Mathlib.Decide.{ℕ_discrete, dec_lt}
@@ -10,7 +10,6 @@ use lib.Arith.{digits_lt, digits_div, digits_mod}
 use lib.Dec.{T, eqb, ltb}
 use borrow.Author.Tests.{eqb-true, eqb-false, eq-eqb, ne_eqb, ltb-true, ltb-false, lt-ltb}
 use lib.ListN.{length, drop, set}
-use lib.Bits.{bit_and}
 use Rattle.product.specs.Facts.{Fact, head, triple}
 use Rattle.product.specs.Table.{Table}
 use Rattle.table.specs.declared.Size.{Size}
@@ -21,7 +20,8 @@ use Rattle.product.proofs.Lists.{T_true}
 use Rattle.bits.specs.Bit.{bit}
 use Rattle.bits.proofs.Bit.{bit_zero, bit_past}
 use Rattle.bits.specs.Matrix.{entry, mat}
-use Rattle.bits.proofs.Lowest.{lowest, lowest_set, cleared, cleared_less}
+use Rattle.bits.specs.Ones.{Lowest}
+use Rattle.bits.proofs.Some.{bit_taken, bits_left, left_in}
 use Rattle.decide.specs.Stamp.{Sort, of_heads, of_triples, view_of, cells_of, Became, alone, named, ranked, Stamps}
 
 -- the triples of symbol g that stand in the matrix d, and the heads that stand in the row d
@@ -44,21 +44,21 @@ and_right_false false = refl
 eight : 0 < 8
 eight = zero-lt-suc 7
 
-module _ (k g d : ℕ) (pos : 0 < d) (small : d < 2 ^ 64) (t : Table) where
-  abbrev low : ℕ
-  low = lowest d
+module _ (k g : ℕ) {d low d' : ℕ} (taken : Lowest d low d') (t : Table) where
+  there : bit d low ≡ true
+  there = T_true (bit d low) (bit_taken taken)
 
   -- what the store and the rest give a triple of g
   cell : (q e x : ℕ) → e < 8
-      → cond (entry d q e) k x ≡ cond (entry (bit_and d (d - 1)) q e) k (cond (eqb (low / 8) q && eqb (low % 8) e) k x)
+      → cond (entry d q e) k x ≡ cond (entry d' q e) k (cond (eqb (low / 8) q && eqb (low % 8) e) k x)
   cell q e x he =
-      rw (cleared 64 d (q * 8 + e) pos small)
+      rw (bits_left taken (q * 8 + e))
       (by (eqb (q * 8 + e) low)
       (λ y.
       let z : q * 8 + e ≡ low = eqb-true (q * 8 + e) low y in
       let a : low / 8 ≡ q = ap (λ n. n / 8) (sym z) ∙ digits_div q he in
       let b : low % 8 ≡ e = ap (λ n. n % 8) (sym z) ∙ digits_mod q he in
-      let s : bit d (q * 8 + e) ≡ true = ap (bit d) z ∙ T_true (bit d low) (lowest_set 64 d pos small) in
+      let s : bit d (q * 8 + e) ≡ true = ap (bit d) z ∙ there in
       rw (y, s, eq-eqb (low / 8) q a, eq-eqb (low % 8) e b))
       (λ y.
       let n : (q * 8 + e ≡ low) → ⊥ = eqb-false (q * 8 + e) low y in
@@ -74,10 +74,10 @@ module _ (k g d : ℕ) (pos : 0 < d) (small : d < 2 ^ 64) (t : Table) where
       go true x = refl
       go false x = refl
 
-  stamp_step : stamped k g d t ≡ stamped k g (bit_and d (d - 1)) (store t (triple (low / 8) g (low % 8)) k)
+  stamp_step : stamped k g d t ≡ stamped k g d' (store t (triple (low / 8) g (low % 8)) k)
   stamp_step = fun_ext at
     where
-      at : (f : Fact) → stamped k g d t f ≡ stamped k g (bit_and d (d - 1)) (store t (triple (low / 8) g (low % 8)) k) f
+      at : (f : Fact) → stamped k g d t f ≡ stamped k g d' (store t (triple (low / 8) g (low % 8)) k) f
       at (head q g') = refl
       at (triple q g' e) =
           by (eqb g' g)
@@ -87,13 +87,13 @@ module _ (k g d : ℕ) (pos : 0 < d) (small : d < 2 ^ 64) (t : Table) where
           (λ u. rw (u, ne_eqb g g' (λ x. eqb-false g' g u (sym x)), and_right_false (eqb (low / 8) q)))
 
   -- a head
-  head_cell_lem : (q x : ℕ) → cond (bit d q) k x ≡ cond (bit (bit_and d (d - 1)) q) k (cond (eqb low q) k x)
+  head_cell_lem : (q x : ℕ) → cond (bit d q) k x ≡ cond (bit d' q) k (cond (eqb low q) k x)
   head_cell_lem q x =
-      rw (cleared 64 d q pos small)
+      rw (bits_left taken q)
       (by (eqb q low)
       (λ y.
       let z : q ≡ low = eqb-true q low y in
-      let s : bit d q ≡ true = ap (bit d) z ∙ T_true (bit d low) (lowest_set 64 d pos small) in
+      let s : bit d q ≡ true = ap (bit d) z ∙ there in
       rw (y, s, eq-eqb low q (sym z)))
       (λ y. rw (y, ne_eqb low q (λ z. eqb-false q low y (sym z))) (go (bit d q))))
     where
@@ -101,10 +101,10 @@ module _ (k g d : ℕ) (pos : 0 < d) (small : d < 2 ^ 64) (t : Table) where
       go true = refl
       go false = refl
 
-  heads_step : stamped_heads k g d t ≡ stamped_heads k g (bit_and d (d - 1)) (store t (head low g) k)
+  heads_step : stamped_heads k g d t ≡ stamped_heads k g d' (store t (head low g) k)
   heads_step = fun_ext at
     where
-      at : (f : Fact) → stamped_heads k g d t f ≡ stamped_heads k g (bit_and d (d - 1)) (store t (head low g) k) f
+      at : (f : Fact) → stamped_heads k g d t f ≡ stamped_heads k g d' (store t (head low g) k) f
       at (triple q g' e) = refl
       at (head q g') =
           by (eqb g' g)
@@ -194,57 +194,48 @@ heads_are k g d small t = fun_ext at
         ∙ ap (λ c. cond (eqb g g' && c) k (t (head q g')))
         (assoc (ltb q 8) (bit d q) (λ u. subst⁻¹ T (lt-ltb q 8 (small q u)) tt) ∙ ap (λ n. ltb q 8 && bit d n) (sym (zero-add q)))
 
-and_first : (a b : Bool) → T (a && b) → T a
-and_first true b t = tt
-and_first false b t = elim t [ ]
-
 abbrev stamped_of : Sort → (k g d : ℕ) → Table → Table
 stamped_of of_heads = stamped_heads
 stamped_of of_triples = stamped
 
 -- what is left to stamp, with the table as it is, makes what was asked
 pub record Left (s : Sort) (z : Size) (k g b : ℕ) (xs₀ : List ℕ) (d : ℕ) (xs : List ℕ) : Type 0 where
-  pub small : d < 2 ^ 64
   pub part : (i : ℕ) → T (bit d i) → T (bit b i)
   pub is : stamped_of s k g d (view_of s z xs) ≡ stamped_of s k g b (view_of s z xs₀)
   pub as_long : length xs ≡ length xs₀
   pub past : drop (cells_of s z) xs ≡ drop (cells_of s z) xs₀
 
-pub left_first : (s : Sort) (z : Size) (k g b : ℕ) (xs₀ : List ℕ) → b < 2 ^ 64 → Left s z k g b xs₀ b xs₀
-left_first s z k g b xs₀ h = record { small = h; part = λ i t. t; is = refl; as_long = refl; past = refl }
+pub left_first : (s : Sort) (z : Size) (k g b : ℕ) (xs₀ : List ℕ) → {d : ℕ} → d ≡ b → Left s z k g b xs₀ d xs₀
+left_first s z k g b xs₀ e = rw e (record { part = λ i t. t; is = refl; as_long = refl; past = refl })
 
 module _ (z : Size) (k g b : ℕ) (xs₀ : List ℕ) where
-  part_next : (d : ℕ) → 0 < d → d < 2 ^ 64 → ((i : ℕ) → T (bit d i) → T (bit b i)) → (i : ℕ) → T (bit (bit_and d (d - 1)) i) → T (bit b i)
-  part_next d p h k i t = k i (and_first (bit d i) (not (eqb i (lowest d))) (subst T (cleared 64 d i p h) t))
-
   module _ (h : Stamps of_triples z g b xs₀) where
     -- the next cell, counted from the first of the symbol
-    module _ {first row : ℕ} (first-is : first ≡ g * z.states) (row_is : row ≡ z.states * z.symbols) (d : ℕ) (xs : List ℕ) (p : 0 < d) (l : Left of_triples z k g b xs₀ d xs) where
-      inside : (lowest d / 8 < z.states) × (lowest d % 8 < z.states)
-      inside = h.inside (lowest d) (l.part (lowest d) (lowest_set 64 d p l.small))
+    module _ {first row : ℕ} (first-is : first ≡ g * z.states) (row_is : row ≡ z.states * z.symbols) {d i d' : ℕ} (xs : List ℕ) (t : Lowest d i d') (l : Left of_triples z k g b xs₀ d xs) where
+      inside : (i / 8 < z.states) × (i % 8 < z.states)
+      inside = h.inside i (l.part i (bit_taken t))
 
       long : z.states * z.symbols * z.states ≤ length xs
       long = omega (arith, h.long, l.as_long)
 
-      cell_is : first + lowest d / 8 * row + lowest d % 8 ≡ triple_cell z.symbols z.states (lowest d / 8) g (lowest d % 8)
-      cell_is = omega (arith, first-is, ap (λ r. lowest d / 8 * r) (row_is ∙ mul_comm z.states z.symbols), mul_assoc (lowest d / 8) z.symbols z.states, add-mul (lowest d / 8 * z.symbols) g z.states)
+      cell_is : first + i / 8 * row + i % 8 ≡ triple_cell z.symbols z.states (i / 8) g (i % 8)
+      cell_is = omega (arith, first-is, ap (λ r. i / 8 * r) (row_is ∙ mul_comm z.states z.symbols), mul_assoc (i / 8) z.symbols z.states, add-mul (i / 8 * z.symbols) g z.states)
 
-      pub cell_in : first + lowest d / 8 * row + lowest d % 8 < length xs
+      pub cell_in : first + i / 8 * row + i % 8 < length xs
       cell_in = omega (arith, cell_is, digits_lt (digits_lt inside.0 h.symbol) inside.1, long)
 
-      put_is : set xs (first + lowest d / 8 * row + lowest d % 8) k ≡ put_triple z.symbols z.states xs (lowest d / 8) g (lowest d % 8) k
+      put_is : set xs (first + i / 8 * row + i % 8) k ≡ put_triple z.symbols z.states xs (i / 8) g (i % 8) k
       put_is = rw (triple_inside inside.0 h.symbol inside.1) (ap (λ n. set xs n k) cell_is)
 
-      pub triples_next : Left of_triples z k g b xs₀ (bit_and d (d - 1)) (set xs (first + lowest d / 8 * row + lowest d % 8) k)
+      pub triples_next : Left of_triples z k g b xs₀ d' (set xs (first + i / 8 * row + i % 8) k)
       triples_next =
-          let (i, j) = inside in
-          subst⁻¹ (Left of_triples z k g b xs₀ (bit_and d (d - 1))) put_is
+          let (u, v) = inside in
+          subst⁻¹ (Left of_triples z k g b xs₀ d') put_is
           record {
-            small = omega (arith, cleared_less d p, l.small);
-            part = part_next d p l.small l.part;
-            is = ap (stamped k g (bit_and d (d - 1))) (store_triple i h.symbol j k xs [] long) ∙ sym (stamp_step k g d p l.small (view_of of_triples z xs)) ∙ l.is;
-            as_long = length_triple i h.symbol j k xs ∙ l.as_long;
-            past = past_triple i h.symbol j k xs ∙ l.past;
+            part = λ j w. l.part j (left_in t j w);
+            is = ap (stamped k g d') (store_triple u h.symbol v k xs [] long) ∙ sym (stamp_step k g t (view_of of_triples z xs)) ∙ l.is;
+            as_long = length_triple u h.symbol v k xs ∙ l.as_long;
+            past = past_triple u h.symbol v k xs ∙ l.past;
           }
 
     pub triples_last : b < 2 ^ 64 → (d : ℕ) (xs : List ℕ) → d ≡ 0 → Left of_triples z k g b xs₀ d xs
@@ -256,18 +247,17 @@ module _ (z : Size) (k g b : ℕ) (xs₀ : List ℕ) where
     }
 
   module _ (h : Stamps of_heads z g b xs₀) where
-    pub heads_next : (d : ℕ) (xs xs' : List ℕ) → 0 < d → Left of_heads z k g b xs₀ d xs → xs' ≡ put_head z.symbols z.states xs (lowest d) g k
-        → Left of_heads z k g b xs₀ (bit_and d (d - 1)) xs'
-    heads_next d xs xs' p l w =
-        let (_, i) = h.inside (lowest d) (l.part (lowest d) (lowest_set 64 d p l.small)) in
+    pub heads_next : {d i d' : ℕ} (xs xs' : List ℕ) → Lowest d i d' → Left of_heads z k g b xs₀ d xs → xs' ≡ put_head z.symbols z.states xs i g k
+        → Left of_heads z k g b xs₀ d' xs'
+    heads_next {d} {i} {d'} xs xs' t l w =
+        let (_, u) = h.inside i (l.part i (bit_taken t)) in
         let long : z.states * z.symbols ≤ length xs = omega (arith, h.long, l.as_long) in
-        subst⁻¹ (Left of_heads z k g b xs₀ (bit_and d (d - 1))) w
+        subst⁻¹ (Left of_heads z k g b xs₀ d') w
         record {
-          small = omega (arith, cleared_less d p, l.small);
-          part = part_next d p l.small l.part;
-          is = ap (stamped_heads k g (bit_and d (d - 1))) (store_head i h.symbol k xs [] long) ∙ sym (heads_step k g d p l.small (view_of of_heads z xs)) ∙ l.is;
-          as_long = length_head i h.symbol k xs ∙ l.as_long;
-          past = past_head i h.symbol k xs ∙ l.past;
+          part = λ j w. l.part j (left_in t j w);
+          is = ap (stamped_heads k g d') (store_head u h.symbol k xs [] long) ∙ sym (heads_step k g t (view_of of_heads z xs)) ∙ l.is;
+          as_long = length_head u h.symbol k xs ∙ l.as_long;
+          past = past_head u h.symbol k xs ∙ l.past;
         }
 
     pub heads_last : (d : ℕ) (xs : List ℕ) → d ≡ 0 → Left of_heads z k g b xs₀ d xs

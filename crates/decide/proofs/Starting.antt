@@ -34,7 +34,7 @@ use Rattle.bits.specs.Matrix.{mat, mats}
 use Rattle.bits.proofs.Set.{bit_pow, one_shifted}
 use Rattle.steps.specs.Steps.{symbol_of, class_steps}
 use Rattle.steps.specs.Rows.{kind_at, class_at, over_at, under_at, rule_by}
-use Rattle.decide.specs.declared.Decision.{Decision}
+use Rattle.decide.specs.Decided.{Decision}
 use Rattle.decide.specs.declared.Goal.{Goal}
 use Rattle.decide.specs.declared.Next.{Next}
 use Rattle.decide.specs.Sets.{member, chosen}

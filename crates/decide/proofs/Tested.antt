@@ -9,33 +9,38 @@ use Rattle.lent.specs.Lending.{shape_in, of_lent, model_in}
 use Rattle.steps.specs.Steps.{class_steps}
 use Rattle.fitting.specs.declared.Fit.{Fit}
 use Rattle.fitting.specs.Fits.{fit_of, Fits}
-use Rattle.fitting.proofs.Tested.{is_invalid, is_short, is_well, tested_well}
-use Rattle.decide.specs.declared.Decision.{Decision}
-use Rattle.decide.specs.declared.Decision.TheVariants.{Invalid, Short}
-use Rattle.decide.specs.Decided.{decision, heads_left, triples_left, Decided}
+use Rattle.fitting.proofs.Tested.{is_unfit, is_well, tested_well}
+use Rattle.decide.specs.declared.DecideError.TheVariants.{Refused}
+use Rattle.fitting.specs.declared.Unfit.{Unfit}
+use Rattle.fitting.specs.declared.Unfit.TheVariants.{Invalid, Short}
+use Rattle.std.specs.Prelude.{Ok, Err}
+use Rattle.std.specs.Result.{IsErrAnd}
+use Rattle.decide.specs.Decided.{Decision, decision, heads_left, triples_left, Decided}
 use Rattle.decide.specs.Ran.{Able, Ran}
 
--- f is what the model and the arrays were measured as
-module _ (m : Model) (budget : ℕ) (hs ts : List ℕ) {f : Fit} (measured : f ≡ fit_of m (length hs) (length ts)) where
-  pub invalid : f.refusal ≡ 6 → Decided m budget hs ts Invalid hs ts
+-- what the model and the arrays were measured as: why they are refused, or what fits
+module _ (m : Model) (budget : ℕ) (hs ts : List ℕ) where
+  pub refused : (u : Unfit) → Err u ≡ fit_of m (length hs) (length ts) → Decided m budget hs ts (Err (Refused u)) hs ts
   unfolding decision heads_left triples_left
-  invalid n = record {
-    answer = sym (is_invalid m (length hs) (length ts) measured n _ _ _);
-    heads = sym (is_invalid m (length hs) (length ts) measured n _ _ _);
-    triples = sym (is_invalid m (length hs) (length ts) measured n _ _ _);
+  refused Invalid measured = record {
+    answer = sym (is_unfit m (length hs) (length ts) measured _ _ _);
+    heads = sym (is_unfit m (length hs) (length ts) measured _ _ _);
+    triples = sym (is_unfit m (length hs) (length ts) measured _ _ _);
+  }
+  refused Short measured = record {
+    answer = sym (is_unfit m (length hs) (length ts) measured _ _ _);
+    heads = sym (is_unfit m (length hs) (length ts) measured _ _ _);
+    triples = sym (is_unfit m (length hs) (length ts) measured _ _ _);
   }
 
-  pub short : f.refusal ≡ 7 → Decided m budget hs ts Short hs ts
-  unfolding decision heads_left triples_left
-  short n = record {
-    answer = sym (is_short m (length hs) (length ts) measured n _ _ _);
-    heads = sym (is_short m (length hs) (length ts) measured n _ _ _);
-    triples = sym (is_short m (length hs) (length ts) measured n _ _ _);
-  }
+  -- as `?` passes it on
+  pub passed_on : (u : Unfit) → Err u ≡ fit_of m (length hs) (length ts) → (r : Decision) → IsErrAnd r (λ e. e ≡ Refused u) → Decided m budget hs ts r hs ts
+  passed_on u measured (Err e) n = rw n (refused u measured)
+  passed_on u measured (Ok v) n = absurd n
 
-  module _ (p : f.refusal ≡ 6 → ⊥) (q : f.refusal ≡ 7 → ⊥) where
+  module _ {f : Fit} (measured : Ok f ≡ fit_of m (length hs) (length ts)) where
     fits : Fits m (length hs) (length ts)
-    fits = is_well m (length hs) (length ts) measured p q
+    fits = is_well m (length hs) (length ts) measured
 
     pub able : Able m hs ts
     able = let w = fits in record { valid_model = w.valid_model; heads_long = w.heads_there; triples_long = w.triples_there }

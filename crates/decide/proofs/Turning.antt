@@ -6,7 +6,8 @@ use mathlib.Core.Path.{◌≡◌, refl, sym, ap, ◌∙◌, subst}
 use Prim.Native.Nat.{ℕ, suc, ◌<◌}
 use native.Mathlib.Omega.{arith}
 use lib.Bits.{bit_or}
-use lib.Dec.{T, T_not}
+use lib.Dec.{T, T_not, eqb}
+use borrow.Author.Tests.{eqb-true}
 use Rattle.product.specs.Lists.{any}
 use Rattle.product.specs.Product.{Product}
 use Rattle.product.specs.Facts.{Fact, head, triple, cells}
@@ -23,6 +24,25 @@ use Rattle.decide.specs.declared.Next.{Next}
 use Rattle.decide.specs.Standing.{Begins, Ends}
 use Rattle.decide.specs.Turn.{Uses, Chosen, After}
 use Rattle.decide.proofs.Choosing.{sets_next}
+
+pub not_true : (b : Bool) → not b ≡ true → b ≡ false
+not_true false e = refl
+not_true true e = absurd (subst T (sym e) tt)
+
+pub not_false : (b : Bool) → not b ≡ false → b ≡ true
+not_false true e = refl
+not_false false e = absurd (subst T e tt)
+
+-- whether there are any
+is_none : (d : ℕ) → not (eqb d 0) ≡ false → d ≡ 0
+is_none d x = go (eqb d 0) refl x
+  where
+    go : (b : Bool) → eqb d 0 ≡ b → not b ≡ false → d ≡ 0
+    go true e x = eqb-true d 0 e
+    go false e x = absurd (subst T x tt)
+
+is_some : (d : ℕ) → not (eqb d 0) ≡ true → d ≡ 0 → ⊥
+is_some d x z = subst T (sym x ∙ ap (λ d. not (eqb d 0)) z) tt
 
 module _ {p : Product} {z : Size} {n : ℕ} {wt wh rs tg by e hd hs ts : List ℕ} (b : Begins p z n wt wh rs tg by e hd hs ts)
     {ce ch : ℕ} {by' e' hd' hs' ts' : List ℕ} (s : Ends p z n rs tg hs ts ce ch by' e' hd' hs' ts') where
@@ -86,8 +106,8 @@ module _ {p : Product} {z : Size} {n : ℕ} {wt wh rs tg by e hd hs ts : List �
       };
       triples_kept = s.triples_kept;
       heads_kept = s.heads_kept;
-      idle = λ x. idle (sym c.more_is ∙ x);
-      busy = λ x. busy (λ y. x (c.more_is ∙ y));
+      idle = λ x. idle (is_none (bit_or ce ch) (sym c.more_is ∙ x));
+      busy = λ x. busy (is_some (bit_or ce ch) (sym c.more_is ∙ x));
       low = λ g u. heads_low g (subst (λ d. T (bit d g)) c.changed_is u);
       quiet = λ q g u. s.heads_quiet q g (ap (λ d. bit d g) (sym c.changed_is) ∙ u);
     }

@@ -1,5 +1,5 @@
 -- What the rounds are run on: the rules by what they need, the rules of the first round, and what is looked for. What serves the decision's own functions. Assumes nothing.
-use Rattle.std.specs.Prelude.{Bool, ◌&&◌, ◌||◌, List, ◌⊎◌, ◌≡◌, ℕ, ◌*◌, ◌%◌, ◌^◌, ◌<◌, T, eqb, ltb, length}
+use Rattle.std.specs.Prelude.{Bool, true, ◌&&◌, ◌||◌, List, ◌⊎◌, ◌≡◌, ℕ, ◌*◌, ◌%◌, ◌^◌, ◌<◌, T, eqb, ltb, length}
 use Rattle.bits.specs.Bit.{bit}
 use Rattle.model.specs.declared.Shape.{Shape}
 use Rattle.steps.specs.Rows.{kind_at, row_rule}
@@ -42,7 +42,7 @@ pub record RulesSorted (rs : List ℕ) (n : ℕ) (us w : List ℕ) : Type 0 wher
 -- the rules of the first round: the exits, and those that need the head of the start symbol g
 pub record First (rs : List ℕ) (n g : ℕ) (us : List ℕ) (t : Next) : Type 0 where
   pub uses : UsesAll rs n us
-  pub more_is : t.more ≡ 1
+  pub more_is : t.more ≡ true
   pub changed_is : t.changed ≡ (1 * 2 ^ g) % 2 ^ 64
   pub exits : Exits rs n t.wt
   pub heads : Collected us 64 t.changed (zeros 4) t.wh

@@ -1,5 +1,5 @@
 -- What the decision answers, by the document's numbers, and what it leaves in the two lent arrays. Assumes nothing.
-use Rattle.std.specs.Prelude.{List, [], ◌∷◌, ◌++◌, ◌≡◌, ℕ, length, drop}
+use Rattle.std.specs.Prelude.{List, [], ◌∷◌, ◌++◌, ◌≡◌, ℕ, Result, Ok, Err, length, drop}
 use Rattle.std.proofs.Math.Option.{Option, none, some}
 use Rattle.product.specs.Answer.{Answer, answered, refused}
 use Rattle.product.specs.Verdict as product
@@ -8,17 +8,26 @@ use Rattle.product.specs.Table.{left}
 use Rattle.table.specs.Cells.{heads_of, triples_of}
 use Rattle.model.specs.declared.Model.{Model}
 use Rattle.model.specs.Model.{product_of}
-use Rattle.fitting.specs.Fits.{heads_of as head_count, triples_of as triple_count, tested, guarded}
-use Rattle.decide.specs.declared.Decision.{Decision}
-use Rattle.decide.specs.declared.Decision.TheVariants.{Violation, Safe, Invalid, Short, Spent}
+use Rattle.fitting.specs.Fits.{heads_of as head_count, triples_of as triple_count, tested, guarded, refused_by}
+use Rattle.decide.specs.declared.Verdict as code
+use Rattle.decide.specs.declared.Verdict.TheVariants.{Violation, Safe}
+use Rattle.decide.specs.declared.DecideError.{DecideError}
+use Rattle.decide.specs.declared.DecideError.TheVariants.{Refused, Spent}
 
--- the document's number and values of each answer; without a refusal, the verdict, which has its rounds
+-- the code's answer
+abbrev pub Decision : Type 0
+Decision = Result code.Verdict DecideError
+
+-- the document's number and values of each refusal
+abbrev pub undecided : {A : Type 0} → DecideError → Answer A
+undecided (Refused unfit) = refused_by unfit
+undecided (Spent b) = refused 8 (b ∷ [])
+
+-- and of each answer; without a refusal, the verdict, which has its rounds
 abbrev pub meaning : Decision → Answer Verdict
-meaning (Violation n) = answered (violation n)
-meaning (Safe n) = answered (safe n)
-meaning Invalid = refused 6 (0 ∷ [])
-meaning Short = refused 7 (0 ∷ [])
-meaning (Spent b) = refused 8 (b ∷ [])
+meaning (Ok (Violation n)) = answered (violation n)
+meaning (Ok (Safe n)) = answered (safe n)
+meaning (Err e) = undecided e
 
 -- the verdict of the rounds, if the budget is enough for it
 abbrev pub within : (budget : ℕ) → Option Verdict → Answer Verdict

@@ -1,5 +1,5 @@
 -- What the rounds ask, answer and leave. What serves the decision's own functions. Assumes nothing.
-use Rattle.std.specs.Prelude.{Bool, ◌&&◌, ◌||◌, List, ◌≡◌, ℕ, ◌+◌, ◌*◌, ◌%◌, ◌^◌, ◌<◌, ◌≤◌, T, eqb, get_or, set}
+use Rattle.std.specs.Prelude.{Bool, true, false, Option, Some, None, ◌&&◌, ◌||◌, List, ◌≡◌, ℕ, ◌+◌, ◌*◌, ◌%◌, ◌^◌, ◌<◌, ◌≤◌, T, Ok, Err, eqb, get_or, set}
 use Rattle.product.specs.Product.{Product}
 use Rattle.product.specs.Facts.{head, triple}
 use Rattle.product.specs.Table.{ranks}
@@ -7,13 +7,11 @@ use Rattle.product.specs.Verdict.{answer, ran}
 use Rattle.table.specs.declared.Size.{Size}
 use Rattle.bits.specs.Bit.{bit}
 use Rattle.bits.specs.Matrix.{some}
-use Rattle.decide.specs.declared.Decision.{Decision}
-use Rattle.decide.specs.declared.Decision.TheVariants.{Violation, Safe, Spent}
+use Rattle.decide.specs.declared.Verdict.TheVariants.{Violation, Safe}
+use Rattle.decide.specs.declared.DecideError.TheVariants.{Spent}
 use Rattle.decide.specs.declared.Goal.{Goal}
 use Rattle.decide.specs.declared.Next.{Next}
-use Rattle.decide.specs.declared.rounds.Outcome.{Outcome}
-use Rattle.decide.specs.declared.rounds.Outcome.TheVariants.{Goes, Ends}
-use Rattle.decide.specs.Decided.{meaning, within}
+use Rattle.decide.specs.Decided.{Decision, meaning, within}
 use Rattle.decide.specs.Stamp.{of_heads, of_triples, view_of}
 use Rattle.decide.specs.Gather.{zeros}
 use Rattle.decide.specs.Standing.{Begins, Kept}
@@ -26,14 +24,14 @@ final_heads fins changed hd x = some 64 (λ s. bit changed s && (bit (get_or hd 
 unfoldable pub violations : (fins changed : ℕ) → (hd e : List ℕ) → (q g x : ℕ) → Bool
 violations fins changed hd e q g x = (bit (get_or e g 0) (x + 8 * q) && bit fins x) || final_heads fins changed hd x
 
--- after round n: `seen` has the final states of violating facts, and the three tests of it, in this order
-pub data Tested (n budget more seen : ℕ) : Outcome → Type 0 where
-  violates : (seen ≡ 0 → ⊥) → Tested n budget more seen (Ends (Violation n))
-  is_safe : seen ≡ 0 → more ≡ 0 → Tested n budget more seen (Ends (Safe n))
-  is_spent : seen ≡ 0 → (more ≡ 0 → ⊥) → budget ≤ n → Tested n budget more seen (Ends (Spent budget))
-  goes_on : seen ≡ 0 → (more ≡ 0 → ⊥) → n < budget → Tested n budget more seen Goes
+-- after round n: `seen` has the final states of violating facts, and the three tests of it, in this order; none of them gives an answer where the rounds go on
+pub data Tested (n budget : ℕ) (more : Bool) (seen : ℕ) : Option Decision → Type 0 where
+  violates : (seen ≡ 0 → ⊥) → Tested n budget more seen (Some (Ok (Violation n)))
+  is_safe : seen ≡ 0 → more ≡ false → Tested n budget more seen (Some (Ok (Safe n)))
+  is_spent : seen ≡ 0 → more ≡ true → budget ≤ n → Tested n budget more seen (Some (Err (Spent budget)))
+  goes_on : seen ≡ 0 → more ≡ true → n < budget → Tested n budget more seen None
 
-pub record Judged (goal : Goal) (n budget : ℕ) (t : Next) (hd e : List ℕ) (o : Outcome) : Type 0 where
+pub record Judged (goal : Goal) (n budget : ℕ) (t : Next) (hd e : List ℕ) (o : Option Decision) : Type 0 where
   pub seen : ℕ
   pub seen_is : (x : ℕ) → bit seen x ≡ violations goal.finals t.changed hd e goal.state goal.symbol x
   pub tested : Tested n budget t.more seen o
@@ -55,7 +53,7 @@ pub record Starts (p : Product) (z : Size) (goal : Goal) (t : Next) (rs tg us hs
   pub begins : Begins p z 0 t.wt t.wh rs tg (zeros 256) (zeros 32) (start_rows goal) hs ts
   pub uses : Uses p us
   pub goals : Goals p goal
-  pub more_is : t.more ≡ 1
+  pub more_is : t.more ≡ true
   pub changed_is : (x : ℕ) → bit t.changed x ≡ eqb goal.symbol x
 
 pub record Driving (z : Size) (goal : Goal) (t : Next) (rs tg us hs ts : List ℕ) : Type 0 where

@@ -1,18 +1,20 @@
 -- What is run after the steps of the rules of a set, gathered by class. What serves the decision's own functions. Assumes nothing.
-use Rattle.std.specs.Prelude.{false, cond, ◌&&◌, ◌||◌, List, ◌≡◌, ℕ, eqb, length, get_or, replicate}
+use Rattle.std.specs.Prelude.{false, ◌&&◌, ◌||◌, List, ◌≡◌, ℕ, eqb, length, get_or, replicate}
 use Rattle.bits.specs.Matrix.{mat, mats, multiplied}
-use Rattle.steps.specs.Rows.{kind_at, class_at, over_at, under_at}
+use Rattle.steps.specs.declared.Kind.{Kind}
+use Rattle.steps.specs.declared.Kind.TheVariants.{Exit, Direct, Call}
+use Rattle.steps.specs.Rows.{kind_of, kind_at, class_at, over_at, under_at}
 use Rattle.decide.specs.Sets.{chosen, among}
 use Rattle.decide.specs.Stamp.{Entries}
 
 -- the matrix of what is run after a step of a rule: nothing; the triples of g1; those of g1 and then those of g2
-unfoldable pub rest_of : (kind g1 g2 : ℕ) → List ℕ → ℕ
-rest_of kind g1 g2 e =
-    cond (eqb kind 0) 0x8040201008040201
-    (cond (eqb kind 1) (get_or e g1 0) (multiplied (get_or e g1 0) (get_or e g2 0)))
+unfoldable pub rest_of : Kind → (g1 g2 : ℕ) → List ℕ → ℕ
+rest_of Exit g1 g2 e = 0x8040201008040201
+rest_of Direct g1 g2 e = get_or e g1 0
+rest_of Call g1 g2 e = multiplied (get_or e g1 0) (get_or e g2 0)
 
 unfoldable pub rest_at : List ℕ → List ℕ → ℕ → ℕ
-rest_at rs e i = rest_of (kind_at rs i) (over_at rs i) (under_at rs i) e
+rest_at rs e i = rest_of (kind_of (kind_at rs i)) (over_at rs i) (under_at rs i) e
 
 -- what rule i adds, and what the rules of a set add, to the matrix of class c
 abbrev pub added : (rs e : List ℕ) → ℕ → Entries

@@ -8,9 +8,8 @@ use Rattle.model.specs.declared.Model.{Model}
 use Rattle.model.specs.declared.Shape.{Shape}
 use Rattle.model.specs.Model.{product_of}
 use Rattle.model.specs.Valid.{valid}
-use Rattle.decide.specs.declared.Decision.{Decision}
 use Rattle.fitting.specs.Fits.{heads_of as head_count, triples_of as triple_count}
-use Rattle.decide.specs.Decided.{meaning, within}
+use Rattle.decide.specs.Decided.{Decision, meaning, within}
 
 -- what a model says beside its arrays
 abbrev pub shape_of : Model → Shape

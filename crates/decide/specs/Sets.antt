@@ -1,5 +1,5 @@
 -- Sets of numbers below 256 in four words, and 96 such sets in one list. What serves the decision's own functions. Assumes nothing.
-use Rattle.std.specs.Prelude.{Bool, false, not, ◌&&◌, ◌||◌, List, ◌≡◌, ℕ, ◌+◌, ◌*◌, ◌/◌, ◌%◌, ◌<◌, T, eqb, length, get_or}
+use Rattle.std.specs.Prelude.{Option, MatchOption, Bool, false, not, ◌&&◌, ◌||◌, List, ◌≡◌, ℕ, ◌+◌, ◌*◌, ◌/◌, ◌%◌, ◌<◌, T, eqb, length, get_or}
 use Rattle.bits.specs.Bit.{bit}
 use Rattle.bits.specs.Matrix.{some}
 
@@ -22,18 +22,21 @@ pub record With (w : List ℕ) (c : ℕ) (w' : List ℕ) : Type 0 where
 abbrev pub weight : List ℕ → ℕ
 weight w = get_or w 0 0 + get_or w 1 0 + get_or w 2 0 + get_or w 3 0
 
--- r is a member and w' the set without it, or r is not below 256 and there is none
-pub record Picked (w : List ℕ) (r : ℕ) (w' : List ℕ) : Type 0 where
+-- r is a member, and w' the set without it
+pub record Taken (w : List ℕ) (r : ℕ) (w' : List ℕ) : Type 0 where
+  pub small : r < 256
   pub long : length w' ≡ 4
-  pub there : r < 256 → T (chosen w r)
-  pub less : r < 256 → weight w' < weight w
-  pub rest : r < 256 → (x : ℕ) → chosen w' x ≡ chosen w x && not (eqb x r)
-  pub none : (r < 256 → ⊥) → (x : ℕ) → chosen w x ≡ false
+  pub there : T (chosen w r)
+  pub less : weight w' < weight w
+  pub rest : (x : ℕ) → chosen w' x ≡ chosen w x && not (eqb x r)
 
--- the same of word k alone
-pub record PickedIn (w : List ℕ) (k r : ℕ) (w' : List ℕ) : Type 0 where
-  pub some : r < 256 → Picked w r w'
-  pub none : (r < 256 → ⊥) → (w' ≡ w) × (get_or w k 0 ≡ 0)
+-- a member was taken out of word k of the set, or that has none
+abbrev pub PickedIn : (w : List ℕ) (k : ℕ) → Option ℕ → (w' : List ℕ) → Type 0
+PickedIn w k r w' = MatchOption r ((w' ≡ w) × (get_or w k 0 ≡ 0)) (λ r. Taken w r w')
+
+-- out of the set, or it has none
+abbrev pub Picked : (w : List ℕ) → Option ℕ → (w' : List ℕ) → Type 0
+Picked w r w' = MatchOption r ((x : ℕ) → chosen w x ≡ false) (λ r. Taken w r w')
 
 -- the set with those of set number s
 pub record Joined (w l : List ℕ) (s : ℕ) (w' : List ℕ) : Type 0 where

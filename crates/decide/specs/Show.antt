@@ -1,10 +1,12 @@
 -- The heads that the rules of a set give, as rows of bits by symbol. What serves the decision's own functions. Assumes nothing.
-use Rattle.std.specs.Prelude.{Bool, false, cond, ◌&&◌, ◌||◌, List, ◌≡◌, ℕ, ◌<◌, T, eqb, length, get_or}
+use Rattle.std.specs.Prelude.{Bool, false, ◌&&◌, ◌||◌, List, ◌≡◌, ℕ, ◌<◌, T, eqb, length, get_or}
 use Rattle.table.specs.declared.Size.{Size}
 use Rattle.bits.specs.Bit.{bit}
 use Rattle.bits.specs.Matrix.{mats, some, image}
 use Rattle.steps.specs.Steps.{symbol_of}
-use Rattle.steps.specs.Rows.{kind_at, class_at, over_at, under_at}
+use Rattle.steps.specs.declared.Kind.{Kind}
+use Rattle.steps.specs.declared.Kind.TheVariants.{Exit, Direct, Call}
+use Rattle.steps.specs.Rows.{kind_of, kind_at, class_at, over_at, under_at}
 use Rattle.decide.specs.Sets.{among}
 use Rattle.decide.specs.Stamp.{of_heads}
 use Rattle.decide.specs.Gather.{Empty}
@@ -15,13 +17,13 @@ unfoldable pub landing : (tg hd : List ℕ) → (c : ℕ) → ℕ
 landing tg hd c = image (get_or hd (symbol_of c) 0) (get_or tg c 0)
 
 -- the heads that a rule gives whose steps end in l: of what it puts on top, and of what lies under it once that is erased
-abbrev pub shown_by : (kind over under : ℕ) → (e : List ℕ) → (l : ℕ → Bool) → (g x : ℕ) → Bool
-shown_by kind over under e l g x =
-    cond (eqb kind 0) false
-    (cond (eqb kind 1) (eqb over g && l x) ((eqb over g && l x) || (eqb under g && some 8 (λ k. l k && mats e over k x))))
+abbrev pub shown_by : Kind → (over under : ℕ) → (e : List ℕ) → (l : ℕ → Bool) → (g x : ℕ) → Bool
+shown_by Exit over under e l g x = false
+shown_by Direct over under e l g x = eqb over g && l x
+shown_by Call over under e l g x = (eqb over g && l x) || (eqb under g && some 8 (λ k. l k && mats e over k x))
 
 unfoldable pub shown : (rs tg e hd : List ℕ) → (i g x : ℕ) → Bool
-shown rs tg e hd i = shown_by (kind_at rs i) (over_at rs i) (under_at rs i) e (bit (landing tg hd (class_at rs i)))
+shown rs tg e hd i = shown_by (kind_of (kind_at rs i)) (over_at rs i) (under_at rs i) e (bit (landing tg hd (class_at rs i)))
 
 -- of the rules in a set
 unfoldable pub shown_all : (rs tg e hd w : List ℕ) → (g x : ℕ) → Bool

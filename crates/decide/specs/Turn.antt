@@ -1,5 +1,5 @@
 -- The choice of the rules for the next round: those that need a triple or a head of a symbol that changed. What serves the decision's own functions. Assumes nothing.
-use Rattle.std.specs.Prelude.{Bool, false, not, ◌&&◌, ◌||◌, List, ◌≡◌, ℕ, suc, ◌+◌, ◌<◌, T, length}
+use Rattle.std.specs.Prelude.{Bool, true, false, eqb, not, ◌&&◌, ◌||◌, List, ◌≡◌, ℕ, suc, ◌+◌, ◌<◌, T, length}
 use Rattle.std.specs.Int.Bits.{bit_or}
 use Rattle.product.specs.Product.{Rule, exit, direct, call, Product}
 use Rattle.product.specs.Facts.{head}
@@ -33,21 +33,21 @@ pub record Uses (p : Product) (us : List ℕ) : Type 0 where
   pub there : (r : ℕ) → r < p.rules → UsesOf us r (p.rule r)
   pub only : (s r : ℕ) → r < 256 → T (member us s r) → r < p.rules
 
--- the rules that need what changed, by the symbols ce of new triples and ch of new heads; `more` is 0 if there are none
+-- the rules that need what changed, by the symbols ce of new triples and ch of new heads; `more` is whether there are any
 pub record Chosen (us : List ℕ) (ce ch : ℕ) (t : Next) : Type 0 where
-  pub more_is : t.more ≡ bit_or ce ch
+  pub more_is : t.more ≡ not (eqb (bit_or ce ch) 0)
   pub changed_is : t.changed ≡ ch
   pub triples : Collected us 0 ce (zeros 4) t.wt
   pub by_triples : List ℕ
   pub returned : Collected us 32 ce (zeros 4) by_triples
   pub heads : Collected us 64 ch by_triples t.wh
 
--- What stands after round n + 1, with enough rules for the next. `more` is 0 exactly if the round added nothing; `changed` has the symbols with a new head.
+-- What stands after round n + 1, with enough rules for the next. `more` is whether the round added a fact; `changed` has the symbols with a new head.
 pub record After (p : Product) (z : Size) (n : ℕ) (rs tg hs ts : List ℕ) (t : Next) (by' e' hd' hs' ts' : List ℕ) : Type 0 where
   pub begins : Begins p z (suc n) t.wt t.wh rs tg by' e' hd' hs' ts'
   pub triples_kept : Kept of_triples z ts ts'
   pub heads_kept : Kept of_heads z hs hs'
-  pub idle : t.more ≡ 0 → T (not (adds p (suc n)))
-  pub busy : (t.more ≡ 0 → ⊥) → T (adds p (suc n))
+  pub idle : t.more ≡ false → T (not (adds p (suc n)))
+  pub busy : t.more ≡ true → T (adds p (suc n))
   pub low : (g : ℕ) → T (bit t.changed g) → g < 32
   pub quiet : (q g : ℕ) → bit t.changed g ≡ false → T (held p (suc n) (head q g)) → T (held p n (head q g))

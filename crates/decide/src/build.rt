@@ -9,7 +9,7 @@ use crate::sets::{add, collect, put};
 use crate::{Goal, Next};
 use lent::Lent;
 use model::Shape;
-use steps::row_at;
+use steps::{Kind, row_at};
 
 // Puts rule r into the sets of the symbols whose triples or heads it needs. An exit needs none, and is put among the exits.
 fn sort_rule(rules: &Lent, r: usize, us: &mut [u64; 384], exits: &mut [u64; 4])
@@ -19,13 +19,13 @@ fn sort_rule(rules: &Lent, r: usize, us: &mut [u64; 384], exits: &mut [u64; 4])
     ensures { RulePut rules.now r us.old exits.old us.new exits.new }
 {
     let row = row_at(rules, r);
-    if row.kind == 0 {
+    if row.kind == Kind::Exit {
         add(exits, r);
         return;
     }
     put(us, 64 + steps::symbol_of(row.class), r);
     put(us, row.over, r);
-    if row.kind == 1 {
+    if row.kind == Kind::Direct {
         return;
     }
     put(us, row.under, r);
@@ -39,10 +39,8 @@ fn sort_rules(rules: &Lent, count: usize, us: &mut [u64; 384], exits: &mut [u64;
     requires empty_2 { Empty 4 exits.old }
     ensures { RulesSorted rules.now count us.new exits.new }
 {
-    let mut r: usize = 0;
-    while r < count {
+    for r in 0..count {
         sort_rule(rules, r, us, exits);
-        r += 1;
     }
 }
 
@@ -58,7 +56,7 @@ pub(crate) fn first_rules(rules: &Lent, count: usize, g: usize, us: &mut [u64; 3
     let changed = 1u64 << (g as u64);
     let for_heads = collect(us, 64, changed, [0u64; 4]);
     Next {
-        more: 1,
+        more: true,
         changed: changed,
         wt: exits,
         wh: for_heads,
@@ -81,10 +79,8 @@ fn final_states(m: &Lent) -> u64
     ensures { (x : ℕ) → bit result x ≡ ltb x 8 && (product_in m.now).final x }
 {
     let mut r: u64 = 0;
-    let mut q: usize = 0;
-    while q < 8 {
+    for q in 0..8 {
         r = r | if_final(m, q);
-        q += 1;
     }
     r
 }

@@ -1,5 +1,5 @@
 // A round of the heads: where the steps of a rule end, there is a head of what it puts on top, and of what lies under that once it is erased.
-// `round_heads` has nine parameters: six are lent (see triples.rt).
+// `round_heads` has eight parameters: what is written is lent array by array, since each function writes others (see triples.rt).
 ghost use Rattle.std.specs.Prelude.{◌≡◌, ◌&&◌, ℕ, ◌<◌, eqb, length};
 ghost use Rattle.bits.specs.Bit.{bit};
 ghost use Rattle.steps.specs.Rows.{class_at};
@@ -8,20 +8,21 @@ ghost use Rattle.decide.specs.Gather.{Empty};
 ghost use Rattle.decide.specs.Take.{Took, Room, Fits};
 ghost use Rattle.decide.specs.Show.{landing, shown, shown_all, Shows, RowsCover, ShowsAll, RowsFit, SettlesRows, HeadsReady, HeadsDone};
 
-use crate::sets::{gain, pick};
+use crate::Given;
+use crate::sets::{Members, gain};
 use crate::stamps::stamp_heads;
-use lent::Lent;
-use steps::row_at;
+use bits::Ones;
+use steps::{Kind, row_at};
 use table::Size;
 
 // The states in which the steps of rule i end, from the heads of its symbol.
-fn land(i: usize, rules: &Lent, tg: &[u64; 256], hd: &[u64; 32]) -> u64
+fn land(i: usize, given: Given, hd: &[u64; 32]) -> u64
     requires { i < 256 }
-    ensures { result ≡ landing tg.now hd.now (class_at rules.now i) }
+    ensures { result ≡ landing given.entry.tg.now hd.now (class_at given.entry.rules.now i) }
 {
-    let c = steps::class_of(rules, i);
+    let c = steps::class_of(given.rules, i);
     let g = steps::symbol_of(c);
-    steps::states_after(rules, tg, i, hd[g])
+    steps::states_after(given.rules, given.tg, i, hd[g])
 }
 
 // The row of symbol g takes in v. Answers the set of g.
@@ -35,60 +36,41 @@ fn add_row(g: usize, v: u64, nh: &mut [u64; 32]) -> u64
 }
 
 // Rule i adds the heads that it gives. Answers the set of the symbols whose row it wrote.
-fn show(
-    i: usize,
-    rules: &Lent,
-    tg: &[u64; 256],
-    e: &[u64; 32],
-    hd: &[u64; 32],
-    nh: &mut [u64; 32],
-) -> u64
+fn show(i: usize, given: Given, e: &[u64; 32], hd: &[u64; 32], nh: &mut [u64; 32]) -> u64
     requires i_bound { i < 256 }
     requires nh_len { length nh.old ≡ 32 }
-    ensures { Shows (shown rules.now tg.now e.now hd.now i) nh.old result nh.new }
+    ensures { Shows (shown given.entry.rules.now given.entry.tg.now e.now hd.now i) nh.old result nh.new }
 {
-    let row = row_at(rules, i);
-    if row.kind == 0 {
-        return 0;
-    }
-    let v = land(i, rules, tg, hd);
+    let row = row_at(given.rules, i);
+    let v = land(i, given, hd);
     if v == 0 {
         return 0; // no head is passed on
     }
-    let g1 = row.over;
-    let t = add_row(g1, v, nh);
-    if row.kind == 1 {
-        return t;
+    match row.kind {
+        Kind::Exit => 0,
+        Kind::Direct => add_row(row.over, v, nh),
+        Kind::Call => {
+            let t = add_row(row.over, v, nh);
+            let back = e[row.over];
+            if back == 0 {
+                return t; // nothing is returned to
+            }
+            t | add_row(row.under, bits::through(v, back), nh)
+        }
     }
-    let back = e[g1];
-    if back == 0 {
-        return t; // nothing is returned to
-    }
-    t | add_row(row.under, bits::through(v, back), nh)
 }
 
 // The rules of a set.
-fn show_all(
-    set: [u64; 4],
-    rules: &Lent,
-    tg: &[u64; 256],
-    e: &[u64; 32],
-    hd: &[u64; 32],
-    nh: &mut [u64; 32],
-) -> u64
+fn show_all(set: [u64; 4], given: Given, e: &[u64; 32], hd: &[u64; 32], nh: &mut [u64; 32]) -> u64
     requires set_len { length set ≡ 4 }
     requires empty { Empty 32 nh.old }
-    ensures { ShowsAll (shown_all rules.now tg.now e.now hd.now set) result nh.new }
+    ensures { ShowsAll (shown_all given.entry.rules.now given.entry.tg.now e.now hd.now set) result nh.new }
 {
-    let mut left = set;
     let mut touched: u64 = 0;
-    loop {
-        let i = pick(&mut left);
-        if 256 <= i {
-            return touched;
-        }
-        touched = touched | show(i, rules, tg, e, hd, nh);
+    for i in Members(set) {
+        touched = touched | show(i, given, e, hd, nh);
     }
+    touched
 }
 
 // The row of symbol g takes in m, and its new heads get the rank k. Answers the set of g if there is one, and else the empty set.
@@ -119,11 +101,8 @@ fn settle_heads(
     requires rows_fit { RowsFit size nh.old }
     ensures { SettlesRows size k nh.old hd.old heads.old result nh.new hd.new heads.new }
 {
-    let mut d = touched;
     let mut changed: u64 = 0;
-    while d != 0 {
-        let g = u64::trailing_zeros(d) as usize;
-        d = d & (d - 1);
+    for g in Ones(touched) {
         changed = changed | take_heads(size, g, nh[g], k, hd, heads);
         nh[g] = 0;
     }
@@ -135,17 +114,16 @@ pub(crate) fn round_heads(
     size: Size,
     k: u16,
     set: [u64; 4],
-    rules: &Lent,
-    tg: &[u64; 256],
+    given: Given,
     e: &[u64; 32],
     nh: &mut [u64; 32],
     hd: &mut [u64; 32],
     heads: &mut [u16],
 ) -> u64
-    requires heads_ready { HeadsReady size set rules.now tg.now e.now hd.old heads.old }
+    requires heads_ready { HeadsReady size set given.rules.now given.tg.now e.now hd.old heads.old }
     requires empty { Empty 32 nh.old }
-    ensures { HeadsDone size k set rules.now tg.now e.now hd.old heads.old result nh.new hd.new heads.new }
+    ensures { HeadsDone size k set given.entry.rules.now given.entry.tg.now e.now hd.old heads.old result nh.new hd.new heads.new }
 {
-    let touched = show_all(set, rules, tg, e, hd, nh);
+    let touched = show_all(set, given, e, hd, nh);
     settle_heads(size, touched, k, nh, hd, heads)
 }

@@ -3,22 +3,36 @@
 
 ghost use Rattle.std.specs.Prelude.{◌≡◌};
 ghost use Rattle.lent.specs.Lending.{shape_in, of_lent, model_in};
+ghost use Rattle.decide.specs.declared.DecideError.TheVariants.{Refused};
 ghost use Rattle.decide.specs.Decided.{Decided};
 ghost use Rattle.decide.specs.Ran.{Able, Started, Ran};
 
 use crate::build::{first_rules, goal_of};
+use fitting::Unfit;
 use lent::Lent;
 use model::Shape;
 use table::{Fact, Size};
 
-// A verdict with its rounds, or a refusal: 6, 7, and 8 with the budget.
-#[derive(Clone, Copy)]
-pub enum Decision {
+// A verdict with its rounds.
+#[derive(Clone, Copy, PartialEq, Eq, Debug)]
+pub enum Verdict {
     Violation(u16),
     Safe(u16),
-    Invalid,
-    Short,
+}
+
+// Why there is none: 6 or 7; or 8, with the budget that was spent.
+#[derive(Clone, Copy, PartialEq, Eq, Debug)]
+pub enum DecideError {
+    Refused(Unfit),
     Spent(u32),
+}
+
+impl From<Unfit> for DecideError {
+    ghost from_gives = { λ unfit e. e ≡ Refused unfit };
+
+    fn from(unfit: Unfit) -> Self {
+        DecideError::Refused(unfit)
+    }
 }
 
 // What is looked for: the final states, from the start.
@@ -29,14 +43,21 @@ struct Goal {
     symbol: usize,
 }
 
-// After a round: whether it added a fact, as a number that is 0 if it did not; the symbols with a new head; and the sets of the rules for the next
-// round, for its triples and for its heads.
+// After a round: whether it added a fact; the symbols with a new head; and the sets of the rules for the next round, for its triples and for its heads.
 #[derive(Clone, Copy)]
 struct Next {
-    more: u64,
+    more: bool,
     changed: u64,
     wt: [u64; 4],
     wh: [u64; 4],
+}
+
+// What the rounds are run on, and leave as it is: the rules, for each class the matrix of its steps, and the sets of rules by what they need.
+#[derive(Clone, Copy)]
+struct Given<'a> {
+    rules: &'a Lent,
+    tg: &'a [u64; 256],
+    us: &'a [u64; 384],
 }
 
 mod sets; // sets of rules and of classes
@@ -50,14 +71,20 @@ mod build; // what they are run on
 fn start(heads: &mut [u16], triples: &mut [u16], size: Size, q: usize, g: usize)
     ensures { Started size q g heads.old triples.old heads.new triples.new }
 {
-    table::clear(heads, table::head_count(size));
-    table::clear(triples, table::triple_count(size));
-    let place = table::place_of(size, Fact::Head(q, g));
+    table::clear(heads, size.head_count());
+    table::clear(triples, size.triple_count());
+    let place = size.place_of(Fact::Head(q, g));
     table::put(heads, place, 0);
 }
 
 // The rounds of a valid model, whose shape was asked for, in arrays that are long enough.
-fn run(shape: Shape, m: &Lent, budget: u32, heads: &mut [u16], triples: &mut [u16]) -> Decision
+fn run(
+    shape: Shape,
+    m: &Lent,
+    budget: u32,
+    heads: &mut [u16],
+    triples: &mut [u16],
+) -> Result<Verdict, DecideError>
     requires shape_value { shape ≡ shape_in m.now }
     requires able { Able (of_lent shape m.now) heads.old triples.old }
     ensures { Ran (of_lent shape m.now) budget heads.old triples.old result heads.new triples.new }
@@ -71,20 +98,24 @@ fn run(shape: Shape, m: &Lent, budget: u32, heads: &mut [u16], triples: &mut [u1
     let tg = steps::class_steps(m);
     let mut us = [0u64; 384];
     let first = first_rules(m, shape.rules, goal.symbol, &mut us);
-    rounds::run(size, goal, first, m, &tg, &us, heads, triples, budget)
+    let given = Given {
+        rules: m,
+        tg: &tg,
+        us: &us,
+    };
+    rounds::run(size, goal, first, given, heads, triples, budget)
 }
 
 // Decides a model within a budget of rounds, and leaves in the arrays the ranks of the facts held. Nothing is written on 6 and 7.
-pub fn decide(m: &Lent, budget: u32, heads: &mut [u16], triples: &mut [u16]) -> Decision
+pub fn decide(
+    m: &Lent,
+    budget: u32,
+    heads: &mut [u16],
+    triples: &mut [u16],
+) -> Result<Verdict, DecideError>
     ensures { Decided (model_in m.now) budget heads.old triples.old result heads.new triples.new }
 {
-    let fit = fitting::measure(m, heads.len(), triples.len());
-    if fit.refusal == 6 {
-        return Decision::Invalid;
-    }
-    if fit.refusal == 7 {
-        return Decision::Short;
-    }
+    let _fit = fitting::measure(m, heads.len(), triples.len())?;
     let shape = lent::shape(m);
     run(shape, m, budget, heads, triples)
 }

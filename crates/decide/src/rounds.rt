@@ -1,5 +1,4 @@
 // The rounds until a verdict or the end of the budget: the tests after each, and the choice of the rules for the next.
-// `run` has nine parameters: five are lent, and with the older kit a struct that held a reference had no proof but one by hand.
 ghost use Rattle.std.specs.Prelude.{◌≡◌, ℕ, ◌*◌, ◌%◌, ◌^◌, ◌<◌, T, set};
 ghost use Rattle.bits.specs.Bit.{bit};
 ghost use Rattle.decide.specs.Turn.{Chosen};
@@ -8,16 +7,9 @@ ghost use Rattle.decide.specs.Driven.{violations, Judged, Driving, Driven};
 use crate::heads::round_heads;
 use crate::sets::collect;
 use crate::triples::round_triples;
-use crate::{Decision, Goal, Next};
-use lent::Lent;
+use crate::{DecideError, Given, Goal, Next, Verdict};
+use bits::Ones;
 use table::Size;
-
-// What the tests after a round say.
-#[derive(Clone, Copy)]
-enum Outcome {
-    Goes,
-    Ends(Decision),
-}
 
 // The rules for the next round: those that need a triple or a head of a symbol that changed, ce for triples and ch for heads.
 fn choose(us: &[u64; 384], ce: u64, ch: u64) -> Next
@@ -29,7 +21,7 @@ fn choose(us: &[u64; 384], ce: u64, ch: u64) -> Next
     let by_triples = collect(us, 32, ce, [0u64; 4]);
     let for_heads = collect(us, 64, ch, by_triples);
     Next {
-        more: ce | ch,
+        more: ce | ch != 0,
         changed: ch,
         wt: for_triples,
         wh: for_heads,
@@ -47,32 +39,36 @@ fn look(goal: Goal, changed: u64, hd: &[u64; 32], e: &[u64; 32]) -> u64
     let fins = goal.finals;
     let q = goal.state;
     let mut r = (e[g] >> (8 * (q as u64))) & fins;
-    let mut d = changed;
-    while d != 0 {
-        let s = u64::trailing_zeros(d) as usize;
-        d = d & (d - 1);
+    for s in Ones(changed) {
         r = r | (hd[s] & fins);
     }
     r
 }
 
-// The three tests after round n, in their order: a violating fact, nothing new, and the budget.
-fn judge(goal: Goal, n: u16, budget: u32, t: Next, hd: &[u64; 32], e: &[u64; 32]) -> Outcome
+// The answer, if the three tests after round n give one, in their order: a violating fact, nothing new, and the budget.
+fn judge(
+    goal: Goal,
+    n: u16,
+    budget: u32,
+    t: Next,
+    hd: &[u64; 32],
+    e: &[u64; 32],
+) -> Option<Result<Verdict, DecideError>>
     requires state_bound { goal.state < 8 }
     requires symbol_bound { goal.symbol < 32 }
     requires by_index { (s : ℕ) → T (bit t.changed s) → s < 32 }
     ensures { Judged goal n budget t hd.now e.now result }
 {
     if look(goal, t.changed, hd, e) != 0 {
-        return Outcome::Ends(Decision::Violation(n));
+        return Some(Ok(Verdict::Violation(n)));
     }
-    if t.more == 0 {
-        return Outcome::Ends(Decision::Safe(n));
+    if !t.more {
+        return Some(Ok(Verdict::Safe(n)));
     }
     if budget <= n as u32 {
-        return Outcome::Ends(Decision::Spent(budget));
+        return Some(Err(DecideError::Spent(budget)));
     }
-    Outcome::Goes
+    None
 }
 
 // The start head among the heads that are held.
@@ -91,15 +87,13 @@ pub(crate) fn run(
     size: Size,
     goal: Goal,
     first: Next,
-    rules: &Lent,
-    tg: &[u64; 256],
-    us: &[u64; 384],
+    given: Given,
     heads: &mut [u16],
     triples: &mut [u16],
     budget: u32,
-) -> Decision
-    requires { Driving size goal first rules.now tg.now us.now heads.old triples.old }
-    ensures { Driven size goal first rules.now tg.now us.now heads.old triples.old budget result heads.new triples.new }
+) -> Result<Verdict, DecideError>
+    requires { Driving size goal first given.rules.now given.tg.now given.us.now heads.old triples.old }
+    ensures { Driven size goal first given.entry.rules.now given.entry.tg.now given.entry.us.now heads.old triples.old budget result heads.new triples.new }
 {
     let mut by = [0u64; 256]; // what the classes have gathered
     let mut nh = [0u64; 32]; // the rows of a round
@@ -109,15 +103,14 @@ pub(crate) fn run(
     let mut n: u16 = 0;
     let mut t = first;
     loop {
-        let o = judge(goal, n, budget, t, &hd, &e);
-        if let Outcome::Ends(d) = o {
+        if let Some(d) = judge(goal, n, budget, t, &hd, &e) {
             return d;
         }
         n += 1;
         let wh = t.wh;
         let wt = t.wt;
-        let ch = round_heads(size, n, wh, rules, tg, &e, &mut nh, &mut hd, heads);
-        let ce = round_triples(size, n, wt, rules, tg, &mut by, &mut e, triples);
-        t = choose(us, ce, ch);
+        let ch = round_heads(size, n, wh, given, &e, &mut nh, &mut hd, heads);
+        let ce = round_triples(size, n, wt, given, &mut by, &mut e, triples);
+        t = choose(given.us, ce, ch);
     }
 }

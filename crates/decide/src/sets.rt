@@ -1,10 +1,12 @@
 // Sets of numbers below 256, of rules or of classes, in four words; and such sets for each symbol.
 ghost use Rattle.std.specs.Prelude.{◌≡◌, ℕ, ◌<◌, ◌+◌, ◌≤◌, ◌*◌, ◌^◌, length, get_or, T};
-ghost use Rattle.std.specs.Int.Count.{count_trailing_zeros};
+ghost use Rattle.std.specs.Iterator.{at_most};
 ghost use Rattle.bits.specs.Bit.{bit};
 ghost use Rattle.decide.specs.Take.{Gained};
 ghost use Rattle.decide.specs.Turn.{Collected};
-ghost use Rattle.decide.specs.Sets.{With, PickedIn, Picked, Joined, Put};
+ghost use Rattle.decide.specs.Sets.{weight, With, PickedIn, Picked, Joined, Put};
+
+use bits::Ones;
 
 // Puts c into the set.
 pub(crate) fn add(set: &mut [u64; 4], c: usize)
@@ -28,46 +30,50 @@ pub(crate) fn gain(held: &mut [u64; 32], g: usize, m: u64) -> u64
     all ^ old
 }
 
-// The place of the lowest bit of a word; 64 where it has none.
-fn lowest(d: u64) -> usize
-    ensures value { result ≡ count_trailing_zeros 64 d }
-    ensures d_bound { d < 2 ^ 64 }
-{
-    u64::trailing_zeros(d) as usize
-}
-
-// Takes the lowest member out of word k; 256 where it has none.
-fn pick_in(set: &mut [u64; 4], k: usize) -> usize
+// Takes the lowest member out of word k, if it has one.
+fn pick_in(set: &mut [u64; 4], k: usize) -> Option<usize>
     requires set_len { length set.old ≡ 4 }
     requires k_bound { k < 4 }
     ensures { PickedIn set.old k result set.new }
 {
-    let d = set[k];
-    if d == 0 {
-        return 256;
-    }
-    set[k] = d & (d - 1);
-    k * 64 + lowest(d)
+    let mut word = Ones(set[k]);
+    let i = word.next()?;
+    set[k] = word.0;
+    Some(k * 64 + i)
 }
 
-// Takes the lowest member out of the set; 256 where it has none. The words are named one by one, so that the compiler keeps each in a register.
-pub(crate) fn pick(set: &mut [u64; 4]) -> usize
+// Takes the lowest member out of the set, if it has one. The words are named one by one, so that the compiler keeps each in a register: with a loop over
+// them a decision of many rounds takes 4 % longer.
+fn pick(set: &mut [u64; 4]) -> Option<usize>
     requires { length set.old ≡ 4 }
     ensures { Picked set.old result set.new }
 {
-    let a = pick_in(set, 0);
-    if a < 256 {
-        return a;
+    if let Some(i) = pick_in(set, 0) {
+        return Some(i);
     }
-    let b = pick_in(set, 1);
-    if b < 256 {
-        return b;
+    if let Some(i) = pick_in(set, 1) {
+        return Some(i);
     }
-    let c = pick_in(set, 2);
-    if c < 256 {
-        return c;
+    if let Some(i) = pick_in(set, 2) {
+        return Some(i);
     }
     pick_in(set, 3)
+}
+
+// The members of a set, from the lowest on: what is left of them.
+#[derive(Drop)]
+pub(crate) struct Members(pub(crate) [u64; 4]);
+
+impl Iterator for Members {
+    type Item = usize;
+
+    ghost next_gives = { λ s r t. Picked s.0 r t.0 };
+
+    ghost remaining = { λ s. at_most (weight s.0) };
+
+    fn next(&mut self) -> Option<usize> {
+        pick(&mut self.0)
+    }
 }
 
 // The set takes in the members of set number s.
@@ -76,10 +82,8 @@ fn join(set: &mut [u64; 4], sets: &[u64; 384], s: usize)
     requires s_bound { s < 96 }
     ensures { Joined set.old sets.now s set.new }
 {
-    let mut k: usize = 0;
-    while k < 4 {
+    for k in 0..4 {
         set[k] = set[k] | sets[s * 4 + k];
-        k += 1;
     }
 }
 
@@ -101,11 +105,8 @@ pub(crate) fn collect(sets: &[u64; 384], from: usize, places: u64, set: [u64; 4]
     requires set_len { length set ≡ 4 }
     ensures { Collected sets.now from places set result }
 {
-    let mut d = places;
     let mut w = set;
-    while d != 0 {
-        let g = u64::trailing_zeros(d) as usize;
-        d = d & (d - 1);
+    for g in Ones(places) {
         join(&mut w, sets, from + g);
     }
     w

@@ -1,31 +1,18 @@
 // A round of the triples: what is run after the steps of a rule is gathered by class, and goes once through the steps of each class that has more.
-// `settle`, `settle_all` and `round_triples` have seven and eight parameters: four and five are lent, and with the older kit a struct that held a
-// reference had no proof but one by hand; size and k as a struct by value made a decision of many rounds 2 to 3 % longer.
+// `settle`, `settle_all` and `round_triples` have seven parameters: what is written is lent array by array, since each function writes others; size and
+// k as a struct by value made a decision of many rounds 2 to 3 % longer.
 ghost use Rattle.std.specs.Prelude.{◌≡◌, ℕ, ◌+◌, ◌%◌, ◌<◌, ◌≤◌, length, get_or, set};
-ghost use Rattle.bits.specs.Matrix.{multiplied};
 ghost use Rattle.steps.specs.Steps.{symbol_of};
 ghost use Rattle.decide.specs.Stamp.{of_triples, alone};
 ghost use Rattle.decide.specs.Gather.{rest_of, added, added_by, Visits, Gains};
 ghost use Rattle.decide.specs.Take.{Took, Room, Fits, given_by, from_class, from_classes, AllFit, TriplesReady, TriplesDone};
 
-use crate::sets::{add, gain, pick};
+use crate::Given;
+use crate::sets::{Members, add, gain};
 use crate::stamps::stamp;
 use lent::Lent;
-use steps::{Row, row_at};
+use steps::{Kind, Row, row_at};
 use table::Size;
-
-// The product of two matrices; where one is empty, none is needed.
-fn times(first: u64, second: u64) -> u64
-    ensures { result ≡ multiplied first second }
-{
-    if first == 0 {
-        return 0;
-    }
-    if second == 0 {
-        return 0;
-    }
-    bits::product(first, second)
-}
 
 // What is run after a step of a rule, as a matrix.
 fn rest(row: Row, e: &[u64; 32]) -> u64
@@ -33,16 +20,11 @@ fn rest(row: Row, e: &[u64; 32]) -> u64
     requires under_bound { row.under < 32 }
     ensures { result ≡ rest_of row.kind row.over row.under e.now }
 {
-    if row.kind == 0 {
-        return 0x8040201008040201;
+    match row.kind {
+        Kind::Exit => 0x8040201008040201, // each state by itself
+        Kind::Direct => e[row.over],
+        Kind::Call => bits::composed(e[row.over], e[row.under]),
     }
-    let over = row.over;
-    let first = e[over];
-    if row.kind == 1 {
-        return first;
-    }
-    let under = row.under;
-    times(first, e[under])
 }
 
 // Rule i adds what is run after its step to the matrix of its class. A class that has more by it is noted in the set.
@@ -70,15 +52,11 @@ fn gather(set: [u64; 4], rules: &Lent, e: &[u64; 32], by: &mut [u64; 256]) -> [u
     requires by_len { length by.old ≡ 256 }
     ensures { Gains (added_by rules.now e.now set) by.old result by.new }
 {
-    let mut left = set;
     let mut touched = [0u64; 4];
-    loop {
-        let i = pick(&mut left);
-        if 256 <= i {
-            return touched;
-        }
+    for i in Members(set) {
         visit(i, rules, e, by, &mut touched);
     }
+    touched
 }
 
 // The symbol of class c takes in what is run after the steps of the class, through its steps, and its new triples get the rank k. Answers the set of
@@ -122,15 +100,11 @@ fn settle_all(
     requires all_fit { AllFit size tg.now by.now }
     ensures { Took of_triples size k (from_classes tg.now by.now touched) e.old triples.old result e.new triples.new }
 {
-    let mut left = touched;
     let mut changed: u64 = 0;
-    loop {
-        let c = pick(&mut left);
-        if 256 <= c {
-            return changed;
-        }
+    for c in Members(touched) {
         changed = changed | settle(size, c, k, tg, by, e, triples);
     }
+    changed
 }
 
 // The triples of round k, by the rules of a set. Answers the set of the symbols that changed.
@@ -138,15 +112,14 @@ pub(crate) fn round_triples(
     size: Size,
     k: u16,
     set: [u64; 4],
-    rules: &Lent,
-    tg: &[u64; 256],
+    given: Given,
     by: &mut [u64; 256],
     e: &mut [u64; 32],
     triples: &mut [u16],
 ) -> u64
-    requires { TriplesReady size set rules.now tg.now by.old e.old triples.old }
-    ensures { TriplesDone size k set rules.now tg.now by.old e.old triples.old result by.new e.new triples.new }
+    requires { TriplesReady size set given.rules.now given.tg.now by.old e.old triples.old }
+    ensures { TriplesDone size k set given.entry.rules.now given.entry.tg.now by.old e.old triples.old result by.new e.new triples.new }
 {
-    let touched = gather(set, rules, e, by);
-    settle_all(size, touched, k, tg, by, e, triples)
+    let touched = gather(set, given.rules, e, by);
+    settle_all(size, touched, k, given.tg, by, e, triples)
 }

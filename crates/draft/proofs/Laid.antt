@@ -7,10 +7,10 @@ use native.Mathlib.Decide.{dec_lt}
 use native.Mathlib.Omega.{arith}
 use lib.ListN.{length, set, length-set}
 use lib.Seq.{set-append_left, set_out}
-use borrow.Author.Tests.{eq-eqb, lt-ltb, le-ltb}
+use borrow.Author.Tests.{lt-ltb, le-ltb}
 use Rattle.numbers.specs.Number.{nth}
 use Rattle.numbers.specs.declared.Numbers.{Numbers}
-use Rattle.modelline.specs.declared.Line.{Line}
+use Rattle.line.specs.declared.words.Line.{Line}
 use Rattle.modelline.specs.declared.Word.{Word}
 use Rattle.modelline.specs.declared.Word.TheVariants.{Size, Start, Final, Event, Exit, Direct, Call, Move, Unknown}
 use Rattle.limits.specs.Limits.{refusal, tests, RuleFits, Fits}
@@ -18,7 +18,9 @@ use Rattle.model.specs.declared.Model.{Model}
 use Rattle.lent.specs.Lending.{byte_of, bytes_of, laid, Sized}
 use Rattle.lent.proofs.Packed.{length_bytes}
 use Rattle.draft.specs.declared.Outline.{Outline}
-use Rattle.draft.specs.declared.Noted.{Noted}
+use Rattle.std.specs.Prelude.{Ok, Err}
+use Rattle.line.specs.declared.fault.Fault.{Fault}
+use Rattle.line.specs.Fault.{number_of}
 use Rattle.draft.specs.Draft.{Draft, bare}
 use Rattle.draft.specs.Lines.{three_at, four_at, counts_of, outline_of, after, take_line}
 use Rattle.draft.specs.Written.{truth_at, written, Notes, Stands}
@@ -155,17 +157,26 @@ outline_same d Call n = refl
 outline_same d Move n = refl
 outline_same d Unknown n = refl
 
-module _ {last cells cells' : List ℕ} {o : Outline} {d : Draft} (s : Stands last o cells d) {l : Line} {r : Noted} (x : Notes o l cells r cells') where
-  pub same_refusal : r.refusal ≡ (take_line d l).refusal
+module _ {last cells : List ℕ} {o : Outline} {d : Draft} (s : Stands last o cells d) where
+  refusal_is : (l : Line Word) → refusal (tests o.counts l.word l.numbers) ≡ (take_line d l).refusal
   unfolding take_line
-  same_refusal = x.number ∙ ap (λ (o : Outline). refusal (tests o.counts l.word l.numbers)) s.outline
+  refusal_is l = ap (λ (o : Outline). refusal (tests o.counts l.word l.numbers)) s.outline
 
-  pub stands_next : r.refusal ≡ 0 → Stands last r.outline cells' (take_line d l).draft
-  stands_next e =
-      let (f, t) = gone_on d l (sym same_refusal ∙ e) in
-      rw t
-      (record {
-        outline = x.outline ∙ rw (eq-eqb _ 0 e) (ap (λ o. outline_of (after (bare o) l.word l.numbers)) s.outline ∙ outline_same d l.word l.numbers);
-        bytes = x.bytes ∙ rw (eq-eqb _ 0 e, s.bytes, s.outline) (written_laid d s.sized last l.word l.numbers f);
-        sized = sized_after d s.sized last l.word l.numbers;
-      })
+  module _ (l : Line Word) {cells' : List ℕ} where
+    -- a line that is refused
+    pub same_refusal : (fault : Fault) → Notes o l cells (Err fault) cells' → number_of fault ≡ (take_line d l).refusal
+    same_refusal fault (n, _) = sym n ∙ refusal_is l
+
+    -- and one that is taken
+    pub no_refusal : {next : Outline} → Notes o l cells (Ok next) cells' → 0 ≡ (take_line d l).refusal
+    no_refusal (n, _, _) = sym n ∙ refusal_is l
+
+    pub stands_next : {next : Outline} → Notes o l cells (Ok next) cells' → Stands last next cells' (take_line d l).draft
+    stands_next x =
+        let (f, t) = gone_on d l (sym (no_refusal x)) in
+        rw t
+        (record {
+          outline = x.1 ∙ ap (λ o. outline_of (after (bare o) l.word l.numbers)) s.outline ∙ outline_same d l.word l.numbers;
+          bytes = x.2 ∙ rw (s.bytes, s.outline) (written_laid d s.sized last l.word l.numbers f);
+          sized = sized_after d s.sized last l.word l.numbers;
+        })

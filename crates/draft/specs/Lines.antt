@@ -3,7 +3,7 @@ use Rattle.std.specs.Prelude.{true, List, ℕ, ◌+◌, ◌*◌, eqb, set}
 use Rattle.text.specs.Split.{pick}
 use Rattle.numbers.specs.Number.{nth}
 use Rattle.numbers.specs.declared.Numbers.{Numbers}
-use Rattle.modelline.specs.declared.Line.{Line}
+use Rattle.line.specs.declared.words.Line.{Line}
 use Rattle.modelline.specs.declared.Word.{Word}
 use Rattle.modelline.specs.declared.Word.TheVariants.{Size, Start, Final, Event, Exit, Direct, Call, Move, Unknown}
 use Rattle.limits.specs.declared.Counts.{Counts}
@@ -165,5 +165,5 @@ after d Unknown n = d
 abbrev pub taken : Draft → ℕ → Draft → Taken
 taken d n next = record { refusal = n; draft = pick (eqb n 0) next d }
 
-unfoldable pub take_line : Draft → Line → Taken
+unfoldable pub take_line : Draft → Line Word → Taken
 take_line d l = taken d (refusal (tests (counts_of d) l.word l.numbers)) (after d l.word l.numbers)

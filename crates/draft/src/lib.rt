@@ -7,10 +7,11 @@ ghost use Rattle.numbers.specs.declared.Numbers.{Numbers};
 ghost use Rattle.limits.specs.Limits.{RuleFits, Fits};
 ghost use Rattle.draft.specs.Draft.{bare};
 ghost use Rattle.draft.specs.Lines.{three_at, four_at, outline_of, size_line, start_line, rule_line, move_line, after};
-ghost use Rattle.draft.specs.Written.{truth_at, written, Notes};
+ghost use Rattle.draft.specs.Written.{truth_at, kind_of, written, Notes};
 
 use lent::Lent;
 use limits::Counts;
+use line::Fault;
 use modelline::{Line, Word};
 use numbers::Numbers;
 
@@ -22,67 +23,50 @@ pub struct Outline {
     pub startsymbol: u8,
 }
 
-// What a line does: a refusal's number and the outline before it, or 0 and the outline after it.
+// The kind of a rule, as its row has it.
 #[derive(Clone, Copy)]
-pub struct Noted {
-    pub refusal: u8,
-    pub outline: Outline,
+enum Kind {
+    Exit = 0,
+    Direct = 1,
+    Call = 2,
 }
 
-fn with_size(o: Outline, n: Numbers) -> Outline
+fn with_size(mut o: Outline, n: Numbers) -> Outline
     requires { (nth n 0 ≤ 32) × (nth n 1 ≤ 8) × (nth n 2 ≤ 16) }
     ensures { result ≡ outline_of (size_line (bare o) n) }
 {
     let at = n.at;
-    let mut counts = o.counts;
-    counts.symbols = at[0] as u8;
-    counts.states = at[1] as u8;
-    counts.events = at[2] as u8;
-    Outline {
-        counts,
-        startstate: o.startstate,
-        startsymbol: o.startsymbol,
-    }
+    o.counts.symbols = at[0] as u8;
+    o.counts.states = at[1] as u8;
+    o.counts.events = at[2] as u8;
+    o
 }
 
-fn with_start(o: Outline, n: Numbers) -> Outline
+fn with_start(mut o: Outline, n: Numbers) -> Outline
     requires { (nth n 0 < o.counts.states) × (nth n 1 < o.counts.symbols) }
     ensures { result ≡ outline_of (start_line (bare o) n) }
 {
     let at = n.at;
-    let mut counts = o.counts;
-    counts.started = 1;
-    Outline {
-        counts,
-        startstate: at[0] as u8,
-        startsymbol: at[1] as u8,
-    }
+    o.counts.started = 1;
+    o.startstate = at[0] as u8;
+    o.startsymbol = at[1] as u8;
+    o
 }
 
-fn with_rule(o: Outline) -> Outline
+fn with_rule(mut o: Outline) -> Outline
     requires { o.counts.rules < 256 }
     ensures { (kind : ℕ) (n : Numbers) → result ≡ outline_of (rule_line kind (bare o) n) }
 {
-    let mut counts = o.counts;
-    counts.rules += 1;
-    Outline {
-        counts,
-        startstate: o.startstate,
-        startsymbol: o.startsymbol,
-    }
+    o.counts.rules += 1;
+    o
 }
 
-fn with_move(o: Outline) -> Outline
+fn with_move(mut o: Outline) -> Outline
     requires { o.counts.moves < 128 }
     ensures { (n : Numbers) → result ≡ outline_of (move_line (bare o) n) }
 {
-    let mut counts = o.counts;
-    counts.moves += 1;
-    Outline {
-        counts,
-        startstate: o.startstate,
-        startsymbol: o.startsymbol,
-    }
+    o.counts.moves += 1;
+    o
 }
 
 // Marks truth i of the `count` that stand from a place on. An outline that no reading makes may have states or symbols past them: there nothing is marked.
@@ -96,13 +80,13 @@ fn mark(m: &mut Lent, from: usize, count: usize, i: usize)
 }
 
 // Writes the row of the next rule.
-fn put_rule(m: &mut Lent, counts: Counts, kind: u8, n: Numbers)
+fn put_rule(m: &mut Lent, counts: Counts, kind: Kind, n: Numbers)
     requires { RuleFits counts n }
-    ensures { m.new ≡ four_at m.old (counts.rules * 4) kind (nth n 0) (nth n 1) (nth n 2) }
+    ensures { m.new ≡ four_at m.old (counts.rules * 4) (kind_of kind) (nth n 0) (nth n 1) (nth n 2) }
 {
     let at = n.at;
     let i = counts.rules * 4;
-    m[i] = kind;
+    m[i] = kind as u8;
     m[i + 1] = at[0] as u8;
     m[i + 2] = at[1] as u8;
     m[i + 3] = at[2] as u8;
@@ -129,14 +113,12 @@ fn put(m: &mut Lent, counts: Counts, l: Line)
     let n = l.numbers;
     let at = n.at;
     match w {
-        Word::Unknown => {}
-        Word::Size => {}
-        Word::Start => {}
+        Word::Unknown | Word::Size | Word::Start => {}
         Word::Final => mark(m, 1920, 8, at[0] as usize),
         Word::Event => mark(m, 1408, 512, (at[0] as usize) * 16 + (at[1] as usize)),
-        Word::Exit => put_rule(m, counts, 0, n),
-        Word::Direct => put_rule(m, counts, 1, n),
-        Word::Call => put_rule(m, counts, 2, n),
+        Word::Exit => put_rule(m, counts, Kind::Exit, n),
+        Word::Direct => put_rule(m, counts, Kind::Direct, n),
+        Word::Call => put_rule(m, counts, Kind::Call, n),
         Word::Move => put_move(m, counts, n),
     }
 }
@@ -146,34 +128,21 @@ fn outline_after(o: Outline, l: Line) -> Outline
     requires { Fits o.counts l.word l.numbers }
     ensures { result ≡ outline_of (after (bare o) l.word l.numbers) }
 {
-    let w = l.word;
     let n = l.numbers;
-    match w {
-        Word::Unknown => o,
+    match l.word {
+        Word::Unknown | Word::Final | Word::Event => o,
         Word::Size => with_size(o, n),
         Word::Start => with_start(o, n),
-        Word::Final => o,
-        Word::Event => o,
-        Word::Exit => with_rule(o),
-        Word::Direct => with_rule(o),
-        Word::Call => with_rule(o),
+        Word::Exit | Word::Direct | Word::Call => with_rule(o),
         Word::Move => with_move(o),
     }
 }
 
 // What a line does: one that is refused changes nothing.
-pub fn take_line(m: &mut Lent, o: Outline, l: Line) -> Noted
+pub fn take_line(m: &mut Lent, o: Outline, l: Line) -> Result<Outline, Fault>
     ensures { Notes o l m.old result m.new }
 {
-    let counts = o.counts;
-    let refusal = limits::refusal_of(counts, l);
-    if refusal != 0 {
-        return Noted {
-            refusal,
-            outline: o,
-        };
-    }
-    put(m, counts, l);
-    let outline = outline_after(o, l);
-    Noted { refusal, outline }
+    limits::check_line(o.counts, l)?;
+    put(m, o.counts, l);
+    Ok(outline_after(o, l))
 }

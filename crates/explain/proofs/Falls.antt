@@ -1,4 +1,5 @@
 -- What is found has its rule and its move in range, and needs facts of lower rank only; and its steps are those of the trace. Assumes nothing.
+use Rattle.std.specs.Prelude.{Some, None}
 use mathlib.Core.List.{List, [], ◌∷◌}
 use mathlib.Core.Option.{Option, none, some}
 use mathlib.Core.Path.{◌≡◌, refl, subst⁻¹}
@@ -13,19 +14,15 @@ use Rattle.product.specs.Table.{Table}
 use Rattle.product.proofs.Lists.{and_right, All-of, All-left, All-right, All-at}
 use Rattle.table.specs.Places.{fact_of}
 use Rattle.table.proofs.Places.{fact_back}
-use Rattle.culprit.specs.declared.Goal.{Goal}
-use Rattle.culprit.specs.declared.Goal.TheVariants.{Nothing, Of}
 use Rattle.explain.specs.declared.Cause.{Cause}
-use Rattle.explain.specs.declared.Found.{Found}
-use Rattle.explain.specs.declared.Found.TheVariants.{By}
 use Rattle.explain.specs.Search.{lower, step_of, source, chances_to, tried, tried_at, way_by_move, way_by_rule, searched, way_by_rank}
-use Rattle.explain.specs.Answers.{first_in, second_in, cause_of, found_as, rank_of, explained}
-use Rattle.culprit.specs.Culprit.{goal_of}
+use Rattle.explain.specs.Answers.{Found, first_in, second_in, cause_of, found_as, rank_of, explained}
+use Rattle.culprit.specs.Culprit.{Goal, goal_of}
 use Rattle.culprit.proofs.First.{first_elim, find_elim}
 use Rattle.explain.proofs.Tried.{found_some}
 
 -- of the facts in a list the first and the second that are asked for
-module _ (P : Goal → Type 0) (nothing : P Nothing) where
+module _ (P : Goal → Type 0) (nothing : P None) where
   pub first_of : (xs : List Fact) → All (λ f. P (goal_of f)) xs → P (first_in xs)
   first_of [] h = nothing
   first_of (x ∷ xs) h = h.0
@@ -78,7 +75,7 @@ module _ (rules moves : ℕ) (t : Table) (k : ℕ) where
       one : (d : Fact) → T (lower t k d) → rank_of t (goal_of d) < k
       one d u = subst⁻¹ (λ d. t d < k) (fact_back d) (ltb→lt (t d) k u)
 
-pub same_cause : {c c' : Cause} → By c ≡ By c' → c ≡ c'
+pub same_cause : {c c' : Cause} → Some c ≡ Some c' → c ≡ c'
 same_cause e = cc
 
 -- what was found for a fact falls
@@ -93,12 +90,12 @@ module _ (p : Product) (rules moves states : ℕ) (t : Table) where
       (λ v w j. first_elim (Sound rules moves t k) (tried_at p (lower t k) f r v) states
       (λ x w _. sound_tried rules moves t k f r v x i j (p.rule r) (p.next (step_of r v) (source f x)) w) w) w) w is
 
-  falls_at : (f : Fact) (k : ℕ) {d : Found} → d ≡ found_as (way_by_rank why f k) → {c : Cause} → d ≡ By c → Falls rules moves t k c
+  falls_at : (f : Fact) (k : ℕ) {d : Found} → d ≡ found_as (way_by_rank why f k) → {c : Cause} → d ≡ Some c → Falls rules moves t k c
   falls_at f zero read told = let z : ◌≡◌ {A = ℕ} 0 1 = cc in absurd (omega arith)
   falls_at f (suc k) read told =
       let (w, is, by) = found_some (why (suc k) f) read told in
       subst⁻¹ (Falls rules moves t (suc k)) (same_cause by) (falls_by rules moves t (suc k) (omega arith) w (sound_why f (suc k) w is))
 
-  pub found_falls : (f : Goal) {d : Found} → d ≡ found_as (explained why t f) → {c : Cause} → d ≡ By c → Falls rules moves t (rank_of t f) c
-  found_falls Nothing read told = let z : ◌≡◌ {A = ℕ} 0 1 = cc in absurd (omega arith)
-  found_falls (Of f) read told = falls_at (fact_of f) (t (fact_of f)) read told
+  pub found_falls : (f : Goal) {d : Found} → d ≡ found_as (explained why t f) → {c : Cause} → d ≡ Some c → Falls rules moves t (rank_of t f) c
+  found_falls None read told = let z : ◌≡◌ {A = ℕ} 0 1 = cc in absurd (omega arith)
+  found_falls (Some f) read told = falls_at (fact_of f) (t (fact_of f)) read told

@@ -1,4 +1,3 @@
-pub mod Given
 pub mod Tried
 pub mod Explained
 pub mod Falls

@@ -1,81 +1,50 @@
 -- A step tried for a fact, by the tests of the code. Assumes nothing.
+use Rattle.std.specs.Prelude.{Some, None}
 use mathlib.Core.Bool.{Bool, true, false, cond, ◌&&◌}
-use mathlib.Core.List.{[], ◌∷◌, ◌++◌}
+use mathlib.Core.List.{[], ◌∷◌}
 use mathlib.Core.Option.{Option, none, some}
 use mathlib.Core.Path.{◌≡◌, refl, sym, ap, ap₂, ◌∙◌}
-use Prim.Native.Nat.{ℕ, zero, suc, ◌-◌, ◌<◌, ◌≤◌}
+use Prim.Native.Nat.{ℕ, zero, suc, ◌-◌, ◌<◌}
 use native.Mathlib.Omega.{arith}
-use borrow.Author.Tests.{lt-ltb, le-ltb}
 use Rattle.product.specs.Lists.{all, find}
 use Rattle.product.specs.Product as product
 use Rattle.product.specs.Product.{exit, direct, call, Step, Product}
 use Rattle.product.specs.Facts.{Fact, head, triple, Way, needs, same, leaves, enters, backs, returns, meets}
 use Rattle.product.specs.Rounds.{works}
 use Rattle.product.specs.Table.{Table}
-use Rattle.product.proofs.Lists.{all_append}
 use Rattle.model.specs.declared.Rule.{Rule}
-use Rattle.model.specs.declared.Next.{Next}
-use Rattle.model.specs.declared.Next.TheVariants.{To, Stuck}
+use Rattle.std.specs.Prelude as std
+use Rattle.std.specs.Prelude.{Some, None}
 use Rattle.model.specs.Answers.{rule_as, meant, next_as, landed}
 use Rattle.model.proofs.Answers.{meant_as}
 use Rattle.model.proofs.Bounds.{landed_as}
 use Rattle.table.specs.declared.Fact as code
 use Rattle.table.specs.Places.{fact_of}
-use Rattle.culprit.specs.declared.Goal.{Goal}
-use Rattle.culprit.specs.declared.Goal.TheVariants.{Nothing, Of}
+use Rattle.culprit.specs.Culprit.{Goal}
 use Rattle.explain.specs.declared.Cause.{Cause}
-use Rattle.explain.specs.declared.Found.{Found}
-use Rattle.explain.specs.declared.Found.TheVariants.{By, Nowhere}
-use Rattle.explain.specs.Answers.{rank_of, explained, fact_in, needs_of, has_all, first_has, cause_of, found_as}
-use Rattle.explain.specs.Search.{lower, step_of, given_by, source, sooner, later, chances, tried, tried_at, way_by_move, way_by_rule, searched, way_by_rank}
+use Rattle.explain.specs.Answers.{Found, explained, needs_of, has_all, first_has, cause_of, found_as}
+use Rattle.explain.specs.Search.{step_of, given_by, source, sooner, later, chances, tried, tried_at, way_by_move, way_by_rule, searched, way_by_rank}
 use Rattle.culprit.specs.First.{or_else, first_of}
 use Rattle.culprit.proofs.First.{first_here, find_append}
-use Rattle.explain.proofs.Given.{found_if}
-
--- a fact that is asked for, by its rank; where none is, that is 0
-module _ (t : Table) (k : ℕ) where
-  pub low : (f : Goal) {r : ℕ} → r ≡ rank_of t f → r ≤ k → all (lower t (suc k)) (fact_in f) ≡ true
-  low Nothing e l = refl
-  low (Of f) e l = rw (lt-ltb (t (fact_of f)) (suc k) (omega (arith, e)))
-
-  pub high : (f : Goal) {r : ℕ} → r ≡ rank_of t f → k < r → all (lower t (suc k)) (fact_in f) ≡ false
-  high Nothing e l = absurd (omega (arith, e))
-  high (Of f) e l = rw (le-ltb (t (fact_of f)) (suc k) (omega (arith, e)))
-
--- a cause, by the tests of what it needs
-module _ (h : Fact → Bool) (c : Cause) where
-  parts : all h (needs_of c) ≡ (all h (fact_in c.before) && (all h (fact_in c.first) && all h (fact_in c.second)))
-  parts = all_append h (fact_in c.before) (fact_in c.first ++ fact_in c.second)
-      ∙ ap (λ b. all h (fact_in c.before) && b) (all_append h (fact_in c.first) (fact_in c.second))
-
-  pub lacks_before : all h (fact_in c.before) ≡ false → false ≡ has_all h (By c)
-  lacks_before n = rw (parts, n)
-
-  module _ (a : all h (fact_in c.before) ≡ true) where
-    pub lacks_first : all h (fact_in c.first) ≡ false → false ≡ has_all h (By c)
-    lacks_first n = rw (parts, a, n)
-
-    module _ (b : all h (fact_in c.first) ≡ true) where
-      pub lacks_second : all h (fact_in c.second) ≡ false → false ≡ has_all h (By c)
-      lacks_second n = rw (parts, a, b, n)
-
-      pub has_all_lem : all h (fact_in c.second) ≡ true → true ≡ has_all h (By c)
-      has_all_lem d = rw (parts, a, b, d)
 
 abbrev if_has : (Fact → Bool) → Found → Found
-if_has h w = cond (has_all h w) w Nowhere
+if_has h w = cond (has_all h w) w None
 
 abbrev or_found : Found → Found → Found
-or_found (By c) d = By c
-or_found Nowhere d = d
+or_found (Some c) d = Some c
+or_found None d = d
 
 first_has_lem : (h : Fact → Bool) (a b : Found) → first_has h a b ≡ or_found (if_has h a) (if_has h b)
-first_has_lem h Nowhere b = refl
-first_has_lem h (By c) b = go (all h (needs_of c))
+first_has_lem h None b = refl
+first_has_lem h (Some c) b = go (all h (needs_of c))
   where
-    go : (x : Bool) → cond x (By c) (if_has h b) ≡ or_found (cond x (By c) Nowhere) (if_has h b)
+    go : (x : Bool) → cond x (Some c) (if_has h b) ≡ or_found (cond x (Some c) None) (if_has h b)
     go true = refl
     go false = refl
+
+found_if : (b : Bool) (w : Way) → cond b (Some (cause_of w)) None ≡ found_as (cond b (some w) none)
+found_if true w = refl
+found_if false w = refl
 
 -- one way: first what it gives, and then what it needs
 has_one : (h : Fact → Bool) (f : Fact) (w : Way) → needs_of (cause_of w) ≡ needs w → if_has h (found_as (given_by f (w ∷ []))) ≡ found_as (find (works h f) (w ∷ []))
@@ -106,24 +75,24 @@ found_or none o' = refl
 found_or (some w) o' = refl
 
 -- what the answers say of the theory's
-pub found_none : (o : Option Way) {d : Found} → d ≡ found_as o → d ≡ Nowhere → o ≡ none
+pub found_none : (o : Option Way) {d : Found} → d ≡ found_as o → d ≡ None → o ≡ none
 found_none none e i = refl
 found_none (some w) e i = let z : ◌≡◌ {A = ℕ} 0 1 = cc in absurd (omega arith)
 
-pub found_some : (o : Option Way) {d : Found} {c : Cause} → d ≡ found_as o → d ≡ By c → (w : Way) × (o ≡ some w) × (By c ≡ By (cause_of w))
+pub found_some : (o : Option Way) {d : Found} {c : Cause} → d ≡ found_as o → d ≡ Some c → (w : Way) × (o ≡ some w) × (Some c ≡ Some (cause_of w))
 found_some none e i = let z : ◌≡◌ {A = ℕ} 0 1 = cc in absurd (omega arith)
 found_some (some w) e i = (w, refl, sym i ∙ e)
 
 -- a rule and a move with a free state, by the state that they lead to
-module _ (p : Product) (h : Fact → Bool) (f : Fact) (r v x : ℕ) {q : ℕ} (from : q ≡ source f x) {n : Next}
+module _ (p : Product) (h : Fact → Bool) (f : Fact) (r v x : ℕ) {q : ℕ} (from : q ≡ source f x) {n : std.Option ℕ}
     (read : n ≡ next_as (p.next (step_of r v) q)) where
   lands : p.next (step_of r v) (source f x) ≡ landed n
   lands = sym (ap landed (read ∙ ap (λ q. next_as (p.next (step_of r v) q)) from) ∙ landed_as (p.next (step_of r v) (source f x)))
 
-  pub tried_stuck : n ≡ Stuck → Nowhere ≡ found_as (tried_at p h f r v x)
+  pub tried_stuck : n ≡ None → None ≡ found_as (tried_at p h f r v x)
   tried_stuck i = ap (λ o. found_as (tried h f (step_of r v) x (p.rule r) o)) (sym (lands ∙ ap landed i))
 
-  pub tried_to : {y : ℕ} → n ≡ To y → {ρ : Rule} → ρ ≡ rule_as (p.rule r)
+  pub tried_to : {y : ℕ} → n ≡ Some y → {ρ : Rule} → ρ ≡ rule_as (p.rule r)
       → {a : Found} → a ≡ found_as (given_by f (sooner f (step_of r v) x y (meant ρ))) → {b : Found} → b ≡ found_as (given_by f (later f (step_of r v) x y (meant ρ)))
       → {d : Found} → d ≡ first_has h a b → d ≡ found_as (tried_at p h f r v x)
   tried_to {y} i {ρ} k {a} one {b} two e =
@@ -141,7 +110,7 @@ module _ (p : Product) (h : Fact → Bool) (f : Fact) (rules moves states r v x 
   pub search_here : r < rules → first_of (way_by_rule p h f moves states) r ≡ none
       → v < moves → first_of (way_by_move p h f states r) v ≡ none
       → x < states → first_of (tried_at p h f r v) x ≡ none
-      → {d : Found} → d ≡ found_as (tried_at p h f r v x) → {c : Cause} → d ≡ By c → By c ≡ found_as (searched p h f rules moves states)
+      → {d : Found} → d ≡ found_as (tried_at p h f r v x) → {c : Cause} → d ≡ Some c → Some c ≡ found_as (searched p h f rules moves states)
   search_here i a j b k e read told =
       let (w, is, by) = found_some (tried_at p h f r v x) read told in
       by ∙ ap found_as (sym
@@ -150,17 +119,10 @@ module _ (p : Product) (h : Fact → Bool) (f : Fact) (rules moves states r v x 
       (first_here (tried_at p h f r v) states x w k e is))))
 
 -- the fact that is asked for, by its rank k
-module _ (why : ℕ → Fact → Option Way) (t : Table) {f : Goal} where
-  pub asked_none : f ≡ Nothing → Nowhere ≡ found_as (explained why t f)
-  asked_none i = rw i
-
-  module _ {d : code.Fact} (i : f ≡ Of d) {k : ℕ} (ranked : k ≡ t (fact_of d)) where
-    pub asked_start : k ≡ 0 → Nowhere ≡ found_as (explained why t f)
-    asked_start z = rw (i, ← ranked, z)
-
-    pub asked_ranked : (k ≡ 0 → ⊥) → {w : Found} → w ≡ found_as (why (suc (k - 1)) (fact_of d)) → w ≡ found_as (explained why t f)
-    asked_ranked n e = rw (i, ← ranked) (by_rank k n e)
-      where
-        by_rank : (k : ℕ) → (k ≡ 0 → ⊥) → {w : Found} → w ≡ found_as (why (suc (k - 1)) (fact_of d)) → w ≡ found_as (way_by_rank why (fact_of d) k)
-        by_rank zero n e = absurd (n refl)
-        by_rank (suc k) n e = e ∙ ap (λ k. found_as (why k (fact_of d))) (omega arith)
+module _ (why : ℕ → Fact → Option Way) (t : Table) {f : Goal} {d : code.Fact} (i : f ≡ Some d) {k : ℕ} (ranked : k ≡ t (fact_of d)) where
+  pub asked_ranked : (k ≡ 0 → ⊥) → {w : Found} → w ≡ found_as (why (suc (k - 1)) (fact_of d)) → w ≡ found_as (explained why t f)
+  asked_ranked n e = rw (i, ← ranked) (by_rank k n e)
+    where
+      by_rank : (k : ℕ) → (k ≡ 0 → ⊥) → {w : Found} → w ≡ found_as (why (suc (k - 1)) (fact_of d)) → w ≡ found_as (way_by_rank why (fact_of d) k)
+      by_rank zero n e = absurd (n refl)
+      by_rank (suc k) n e = e ∙ ap (λ k. found_as (why k (fact_of d))) (omega arith)

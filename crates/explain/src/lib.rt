@@ -3,19 +3,18 @@
 
 ghost use Rattle.std.specs.Prelude.{◌≡◌, suc};
 ghost use Rattle.table.specs.Places.{fact_of};
-ghost use Rattle.explain.specs.Answers.{table_in, search_in, found_as, explained};
+ghost use Rattle.table.specs.Looked.{ranks_in};
+ghost use Rattle.explain.specs.Answers.{search_in, found_as, explained};
 
-use culprit::Goal;
 use lent::Lent;
-use table::{Fact, Size};
+use table::{Fact, Table};
 
 mod ways; // the ways in which a step may give a fact
 mod why; // a step tried for a fact
 
-// How many symbols, states, rules and moves a model has.
+// How many rules and moves a model has.
 #[derive(Clone, Copy)]
 pub struct Counts {
-    pub size: Size,
     pub rules: usize,
     pub moves: usize,
 }
@@ -25,21 +24,14 @@ pub struct Counts {
 pub struct Cause {
     pub rule: usize,
     pub by: usize,
-    pub before: Goal,
-    pub first: Goal,
-    pub second: Goal,
+    pub before: Option<Fact>,
+    pub first: Option<Fact>,
+    pub second: Option<Fact>,
 }
 
-#[derive(Clone, Copy)]
-pub enum Found {
-    By(Cause),
-    Nowhere,
-}
-
-// What is asked: the fact, in a table of this size, and the rank that what it needs may have at most.
+// What is asked: the fact, and the rank that what it needs may have at most.
 #[derive(Clone, Copy)]
 struct Ask {
-    size: Size,
     f: Fact,
     k: u16,
 }
@@ -53,58 +45,39 @@ struct Step {
 }
 
 // By the first rule, then the first move, then the lowest state whose needed facts all have rank at most k.
-fn first_cause<'a>(
-    m: &'a Lent,
-    heads: &'a [u16],
-    triples: &'a [u16],
-    n: Counts,
-    f: Fact,
-    k: u16,
-) -> Found
-    ensures { result ≡ found_as (search_in m.now n heads.now triples.now (suc k) (fact_of f)) }
+fn first_cause(m: &Lent, table: &Table<'_>, n: Counts, f: Fact, k: u16) -> Option<Cause>
+    ensures { result ≡ found_as (search_in m.now table.now n (suc k) (fact_of f)) }
 {
-    let size = n.size;
-    let states = size.states as usize;
-    let rule_count = n.rules;
-    let move_count = n.moves;
-    let ask = Ask { size, f, k };
-    let mut r: usize = 0;
-    'found: loop {
-        if rule_count <= r {
-            break 'found Found::Nowhere;
-        }
-        let mut v: usize = 0;
-        'moves: while v < move_count {
-            let mut x: usize = 0;
-            'states: while x < states {
-                let s = Step {
-                    rule: r,
-                    by: v,
-                    free: x,
-                };
-                let w = why::tried(m, heads, triples, ask, s);
-                if let Found::By(c) = w {
-                    break 'found Found::By(c);
+    let states = table.size.states as usize;
+    let ask = Ask { f, k };
+    // The description asks for one nested search, left from inside by a label.
+    'found: {
+        for r in 0..n.rules {
+            for v in 0..n.moves {
+                for x in 0..states {
+                    let s = Step {
+                        rule: r,
+                        by: v,
+                        free: x,
+                    };
+                    if let Some(c) = why::tried(m, table, ask, s) {
+                        break 'found Some(c);
+                    }
                 }
-                x += 1;
             }
-            v += 1;
         }
-        r += 1;
+        None
     }
 }
 
 // The explanation of the fact that is asked for, if one is; a fact of rank 0 has none.
-pub fn explain<'a>(m: &'a Lent, heads: &'a [u16], triples: &'a [u16], n: Counts, f: Goal) -> Found
-    ensures { result ≡ found_as (explained (search_in m.now n heads.now triples.now) (table_in n heads.now triples.now) f) }
+pub fn explain(m: &Lent, table: &Table<'_>, n: Counts, f: Option<Fact>) -> Option<Cause>
+    ensures { result ≡ found_as (explained (search_in m.now table.now n) (ranks_in table.now) f) }
 {
-    let Goal::Of(d) = f else {
-        return Found::Nowhere;
-    };
-    let size = n.size;
-    let k = table::rank_at(heads, triples, size, d);
+    let d = f?;
+    let k = table.rank_at(d);
     if k == 0 {
-        return Found::Nowhere;
+        return None;
     }
-    first_cause(m, heads, triples, n, d, k - 1)
+    first_cause(m, table, n, d, k - 1)
 }

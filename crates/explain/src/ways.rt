@@ -1,25 +1,30 @@
 // The ways in which a step to the state y may give a fact, and what they need: entering comes before returning.
-ghost use Rattle.std.specs.Prelude.{cond, ◌≡◌, eqb};
+ghost use Rattle.std.specs.Prelude.{cond, ◌≡◌, eqb, Some, None};
 ghost use Rattle.product.specs.Facts.{head, triple};
 ghost use Rattle.table.specs.Places.{fact_of};
 ghost use Rattle.model.specs.Answers.{meant};
 ghost use Rattle.explain.specs.Answers.{cause_by, found_as};
-ghost use Rattle.explain.specs.declared.Found.TheVariants.{By, Nowhere};
 ghost use Rattle.explain.specs.Search.{step_of, sooner, later, given_by};
 
-use crate::{Cause, Found, Step};
-use culprit::Goal;
+use crate::{Cause, Step};
 use model::Rule;
 use table::Fact;
 
 // A cause by the step, if the symbol a that it gives is the symbol g that is asked for.
-fn caused(s: Step, a: usize, g: usize, before: Goal, first: Goal, second: Goal) -> Found
-    ensures { result ≡ cond (eqb a g) (By (cause_by s.rule s.by before first second)) Nowhere }
+fn caused(
+    s: Step,
+    a: usize,
+    g: usize,
+    before: Option<Fact>,
+    first: Option<Fact>,
+    second: Option<Fact>,
+) -> Option<Cause>
+    ensures { result ≡ cond (eqb a g) (Some (cause_by s.rule s.by before first second)) None }
 {
     if a != g {
-        return Found::Nowhere;
+        return None;
     }
-    Found::By(Cause {
+    Some(Cause {
         rule: s.rule,
         by: s.by,
         before,
@@ -29,65 +34,60 @@ fn caused(s: Step, a: usize, g: usize, before: Goal, first: Goal, second: Goal) 
 }
 
 // The head (q, g), entered by a direct step or a call.
-fn entered(s: Step, y: usize, rule: Rule, q: usize, g: usize) -> Found
+fn entered(s: Step, y: usize, rule: Rule, q: usize, g: usize) -> Option<Cause>
     ensures { result ≡ found_as (given_by (head q g) (sooner (head q g) (step_of s.rule s.by) s.free y (meant rule))) }
 {
     if y != q {
-        return Found::Nowhere;
+        return None;
     }
     match rule {
-        Rule::Exit(_) => Found::Nowhere,
-        Rule::Direct(a, g1) => {
-            let before = Goal::Of(Fact::Head(s.free, a));
-            caused(s, g1, g, before, Goal::Nothing, Goal::Nothing)
-        }
-        Rule::Call(a, g1, _) => {
-            let before = Goal::Of(Fact::Head(s.free, a));
-            caused(s, g1, g, before, Goal::Nothing, Goal::Nothing)
+        Rule::Exit(_) => None,
+        Rule::Direct(a, g1) | Rule::Call(a, g1, _) => {
+            let before = Some(Fact::Head(s.free, a));
+            caused(s, g1, g, before, None, None)
         }
     }
 }
 
 // The head (q, g), returned to after a call.
-fn returned(s: Step, y: usize, rule: Rule, q: usize, g: usize) -> Found
+fn returned(s: Step, y: usize, rule: Rule, q: usize, g: usize) -> Option<Cause>
     ensures { result ≡ found_as (given_by (head q g) (later (head q g) (step_of s.rule s.by) s.free y (meant rule))) }
 {
     match rule {
-        Rule::Exit(_) => Found::Nowhere,
-        Rule::Direct(_, _) => Found::Nowhere,
+        Rule::Exit(_) | Rule::Direct(_, _) => None,
         Rule::Call(a, g1, g2) => {
-            let before = Goal::Of(Fact::Head(s.free, a));
-            let first = Goal::Of(Fact::Triple(y, g1, q));
-            caused(s, g2, g, before, first, Goal::Nothing)
+            let before = Some(Fact::Head(s.free, a));
+            let first = Some(Fact::Triple(y, g1, q));
+            caused(s, g2, g, before, first, None)
         }
     }
 }
 
 // The triple (q, g, e) by a step from the state q.
-fn erased(s: Step, y: usize, rule: Rule, q: usize, g: usize, e: usize) -> Found
+fn erased(s: Step, y: usize, rule: Rule, q: usize, g: usize, e: usize) -> Option<Cause>
     ensures { result ≡ found_as (given_by (triple q g e) (sooner (triple q g e) (step_of s.rule s.by) s.free y (meant rule))) }
 {
     match rule {
         Rule::Exit(a) => {
             if y != e {
-                return Found::Nowhere;
+                return None;
             }
-            caused(s, a, g, Goal::Nothing, Goal::Nothing, Goal::Nothing)
+            caused(s, a, g, None, None, None)
         }
         Rule::Direct(a, g1) => {
-            let first = Goal::Of(Fact::Triple(y, g1, e));
-            caused(s, a, g, Goal::Nothing, first, Goal::Nothing)
+            let first = Some(Fact::Triple(y, g1, e));
+            caused(s, a, g, None, first, None)
         }
         Rule::Call(a, g1, g2) => {
-            let first = Goal::Of(Fact::Triple(y, g1, s.free));
-            let second = Goal::Of(Fact::Triple(s.free, g2, e));
-            caused(s, a, g, Goal::Nothing, first, second)
+            let first = Some(Fact::Triple(y, g1, s.free));
+            let second = Some(Fact::Triple(s.free, g2, e));
+            caused(s, a, g, None, first, second)
         }
     }
 }
 
 // Of the two ways that a step may have to give a fact, the one that comes first.
-pub fn first(s: Step, y: usize, rule: Rule, f: Fact) -> Found
+pub fn first(s: Step, y: usize, rule: Rule, f: Fact) -> Option<Cause>
     ensures { result ≡ found_as (given_by (fact_of f) (sooner (fact_of f) (step_of s.rule s.by) s.free y (meant rule))) }
 {
     match f {
@@ -97,11 +97,11 @@ pub fn first(s: Step, y: usize, rule: Rule, f: Fact) -> Found
 }
 
 // And the second.
-pub fn second(s: Step, y: usize, rule: Rule, f: Fact) -> Found
+pub fn second(s: Step, y: usize, rule: Rule, f: Fact) -> Option<Cause>
     ensures { result ≡ found_as (given_by (fact_of f) (later (fact_of f) (step_of s.rule s.by) s.free y (meant rule))) }
 {
     match f {
         Fact::Head(q, g) => returned(s, y, rule, q, g),
-        Fact::Triple(_, _, _) => Found::Nowhere,
+        Fact::Triple(_, _, _) => None,
     }
 }

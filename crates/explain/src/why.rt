@@ -1,67 +1,51 @@
 // A step tried for a fact: of the ways that give it, the first whose needed facts all have lower rank.
 ghost use Rattle.std.specs.Prelude.{◌≡◌, suc};
 ghost use Rattle.lent.specs.Lending.{product_in};
-ghost use Rattle.table.specs.Cells.{view};
 ghost use Rattle.table.specs.Places.{fact_of};
+ghost use Rattle.table.specs.Looked.{ranks_in};
 ghost use Rattle.explain.specs.Answers.{found_as, rank_of, has_all, first_has};
-ghost use Rattle.explain.specs.Search.{below, source, tried_at};
+ghost use Rattle.explain.specs.Search.{lower, source, tried_at};
 
-use crate::{Ask, Found, Step, ways};
-use culprit::Goal;
+use crate::{Ask, Cause, Step, ways};
 use lent::Lent;
-use model::Next;
-use table::{Fact, Size};
+use table::{Fact, Table};
 
 // The rank of the fact that is needed; where none is, 0.
-fn rank_of<'a>(heads: &'a [u16], triples: &'a [u16], size: Size, f: Goal) -> u16
-    ensures { result ≡ rank_of (view size.symbols size.states heads.now triples.now) f }
+fn rank_of(table: &Table<'_>, f: Option<Fact>) -> u16
+    ensures { result ≡ rank_of (ranks_in table.now) f }
 {
-    match f {
-        Goal::Nothing => 0,
-        Goal::Of(d) => table::rank_at(heads, triples, size, d),
-    }
+    let Some(d) = f else {
+        return 0;
+    };
+    table.rank_at(d)
 }
 
 // There is a cause, and all that it needs has rank at most k. What is not needed has rank 0.
-fn is_lower<'a>(heads: &'a [u16], triples: &'a [u16], size: Size, k: u16, w: Found) -> bool
-    ensures { result ≡ has_all (below size.symbols size.states heads.now triples.now (suc k)) w }
+fn is_lower(table: &Table<'_>, k: u16, w: Option<Cause>) -> bool
+    ensures { result ≡ has_all (lower (ranks_in table.now) (suc k)) w }
 {
-    let Found::By(c) = w else {
+    let Some(c) = w else {
         return false;
     };
-    let before = c.before;
-    if rank_of(heads, triples, size, before) > k {
-        return false;
-    }
-    let first = c.first;
-    if rank_of(heads, triples, size, first) > k {
-        return false;
-    }
-    let second = c.second;
-    if rank_of(heads, triples, size, second) > k {
-        return false;
-    }
-    true
+    rank_of(table, c.before) <= k && rank_of(table, c.first) <= k && rank_of(table, c.second) <= k
 }
 
 // The first of two causes whose needed facts all have rank at most k.
-fn first_lower<'a>(
-    heads: &'a [u16],
-    triples: &'a [u16],
-    size: Size,
+fn first_lower(
+    table: &Table<'_>,
     k: u16,
-    first: Found,
-    second: Found,
-) -> Found
-    ensures { result ≡ first_has (below size.symbols size.states heads.now triples.now (suc k)) first second }
+    first: Option<Cause>,
+    second: Option<Cause>,
+) -> Option<Cause>
+    ensures { result ≡ first_has (lower (ranks_in table.now) (suc k)) first second }
 {
-    if is_lower(heads, triples, size, k, first) {
+    if is_lower(table, k, first) {
         return first;
     }
-    if is_lower(heads, triples, size, k, second) {
+    if is_lower(table, k, second) {
         return second;
     }
-    Found::Nowhere
+    None
 }
 
 // The state that the step starts from, where x is the one free state: for a triple its own.
@@ -75,19 +59,18 @@ fn source(f: Fact, x: usize) -> usize
 }
 
 // The step tried for what is asked.
-pub fn tried<'a>(m: &'a Lent, heads: &'a [u16], triples: &'a [u16], ask: Ask, s: Step) -> Found
-    ensures { result ≡ found_as (tried_at (product_in m.now) (below ask.size.symbols ask.size.states heads.now triples.now (suc ask.k)) (fact_of ask.f) s.rule s.by s.free) }
+pub fn tried(m: &Lent, table: &Table<'_>, ask: Ask, s: Step) -> Option<Cause>
+    ensures { result ≡ found_as (tried_at (product_in m.now) (lower (ranks_in table.now) (suc ask.k)) (fact_of ask.f) s.rule s.by s.free) }
 {
     let f = ask.f;
     let next = lent::next_state(m, s.rule, s.by, source(f, s.free));
     match next {
-        Next::Stuck => Found::Nowhere,
-        Next::To(y) => {
+        None => None,
+        Some(y) => {
             let rule = lent::rule_at(m, s.rule);
             let first = ways::first(s, y, rule, f);
             let second = ways::second(s, y, rule, f);
-            let size = ask.size;
-            first_lower(heads, triples, size, ask.k, first, second)
+            first_lower(table, ask.k, first, second)
         }
     }
 }

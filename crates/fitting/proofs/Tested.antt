@@ -1,7 +1,7 @@
 -- The tests of 6 and 7 case by case, and by the number that they gave. Assumes nothing.
 use mathlib.Core.Bool.{Bool, true, false}
 use mathlib.Core.List.{[], ◌∷◌}
-use mathlib.Core.Path.{◌≡◌, refl, sym, ap, ◌∙◌}
+use mathlib.Core.Path.{◌≡◌, refl, ap, ◌∙◌}
 use Prim.Native.Nat.{ℕ, ◌<◌, ◌≤◌}
 use native.Mathlib.Omega.{arith}
 use lib.Dec.{T, ltb}
@@ -13,9 +13,17 @@ use Rattle.product.proofs.Lists.{T_true}
 use Rattle.model.specs.declared.Model.{Model}
 use Rattle.model.specs.Valid.{valid}
 use Rattle.model.proofs.Bounds.{few_heads, few_triples}
+use Rattle.std.specs.Prelude.{Ok, Err}
 use Rattle.fitting.specs.declared.Fit.{Fit}
+use Rattle.fitting.specs.declared.Unfit.{Unfit}
+use Rattle.fitting.specs.declared.Unfit.TheVariants.{Invalid, Short}
 use Rattle.table.specs.declared.Size.{Size}
-use Rattle.fitting.specs.Fits.{size_of, unfit, heads_of, triples_of, tested, guarded, fit_of, Fits}
+use Rattle.fitting.specs.Fits.{size_of, heads_of, triples_of, tested, guarded, fit, fit_of, Fits}
+
+-- one of two, by why a call is refused
+abbrev pub by_unfit : {A : Type 0} → Unfit → (invalid short : A) → A
+by_unfit Invalid a b = a
+by_unfit Short a b = b
 
 -- how many cells a table has at the most
 pub record Cells (m : Model) : Type 0 where
@@ -73,53 +81,33 @@ module _ (m : Model) (h t : ℕ) where
       go true v false i true j = refl
       go true v false i false j = k (record { valid_model = rw v tt; heads_there = ltb-false _ _ i; triples_there = ltb-false _ _ j })
 
-  -- by the number
-  tested_ap : {A B : Type 0} (f : A → B) (a b c : A) → tested m h t (f a) (f b) (f c) ≡ f (tested m h t a b c)
-  tested_ap {A} {B} f a b c = go (valid m) (ltb h (heads_of m)) (ltb t (triples_of m))
-    where
-      go : (x y z : Bool) → pick x (pick y (f b) (pick z (f b) (f c))) (f a) ≡ f (pick x (pick y b (pick z b c)) a)
-      go false y z = refl
-      go true true z = refl
-      go true false true = refl
-      go true false false = refl
-
-  module _ {f : Fit} (e : f ≡ fit_of m h t) where
-    number : tested m h t 6 7 0 ≡ f.refusal
-    number = tested_ap {A = Fit} (λ f. f.refusal) (unfit 6) (unfit 7) (record { refusal = 0; size = size_of m; heads = heads_of m; triples = triples_of m }) ∙ ap (λ (f : Fit). f.refusal) (sym e)
-
-    pub is_invalid : f.refusal ≡ 6 → {A : Type 0} (a b c : A) → tested m h t a b c ≡ a
-    is_invalid r {A} a b c = go (valid m) (ltb h (heads_of m)) (ltb t (triples_of m)) (number ∙ r)
+  -- by what was measured: why the call is refused, or what fits
+  module _ {u : Unfit} (e : Err u ≡ fit_of m h t) where
+    pub is_unfit : {A : Type 0} (a b c : A) → tested m h t a b c ≡ by_unfit u a b
+    is_unfit {A} a b c = go (valid m) (ltb h (heads_of m)) (ltb t (triples_of m)) e
       where
-        go : (x y z : Bool) → ◌≡◌ {A = ℕ} (pick x (pick y 7 (pick z 7 0)) 6) 6 → pick x (pick y b (pick z b c)) a ≡ a
-        go false y z k = refl
-        go true true z k = absurd (omega arith)
-        go true false true k = absurd (omega arith)
-        go true false false k = absurd (omega arith)
+        go : (x y z : Bool) → Err u ≡ pick x (pick y (Err Short) (pick z (Err Short) (Ok (fit m)))) (Err Invalid)
+            → pick x (pick y b (pick z b c)) a ≡ by_unfit u a b
+        go false y z k = let n : u ≡ Invalid = cc in rw n refl
+        go true true z k = let n : u ≡ Short = cc in rw n refl
+        go true false true k = let n : u ≡ Short = cc in rw n refl
+        go true false false k = cc
 
-    pub is_short : f.refusal ≡ 7 → {A : Type 0} (a b c : A) → tested m h t a b c ≡ b
-    is_short r {A} a b c = go (valid m) (ltb h (heads_of m)) (ltb t (triples_of m)) (number ∙ r)
-      where
-        go : (x y z : Bool) → ◌≡◌ {A = ℕ} (pick x (pick y 7 (pick z 7 0)) 6) 7 → pick x (pick y b (pick z b c)) a ≡ b
-        go false y z k = absurd (omega arith)
-        go true true z k = refl
-        go true false true k = refl
-        go true false false k = absurd (omega arith)
+  module _ {f : Fit} (e : Ok f ≡ fit_of m h t) where
+    measured : Fits m h t × (f ≡ fit m)
+    measured = by_tests (Err Invalid) (Err Short) (Ok (fit m)) (λ r. Ok f ≡ r → Fits m h t × (f ≡ fit m)) (λ k. cc) (λ k. cc) (λ w k. (w, cc)) e
 
-    module _ (p : f.refusal ≡ 6 → ⊥) (q : f.refusal ≡ 7 → ⊥) where
-      pub is_well : Fits m h t
-      is_well = by_tests 6 7 0 (λ n. n ≡ f.refusal → Fits m h t) (λ k. absurd (p (sym k))) (λ k. absurd (q (sym k))) (λ w k. w) number
+    pub is_well : Fits m h t
+    is_well = measured.0
 
-      is_fit : f ≡ record { refusal = 0; size = size_of m; heads = heads_of m; triples = triples_of m }
-      is_fit = e ∙ tested_well is_well _ _ _
+    pub heads_are : f.heads ≡ heads_of m
+    heads_are = ap (λ (f : Fit). f.heads) measured.1
 
-      pub heads_are : f.heads ≡ heads_of m
-      heads_are = ap (λ f. f.heads) is_fit
+    pub triples_are : f.triples ≡ triples_of m
+    triples_are = ap (λ (f : Fit). f.triples) measured.1
 
-      pub triples_are : f.triples ≡ triples_of m
-      triples_are = ap (λ f. f.triples) is_fit
-
-      pub size_is : f.size ≡ size_of m
-      size_is = ap (λ (f : Fit). f.size) is_fit
+    pub size_is : f.size ≡ size_of m
+    size_is = ap (λ (f : Fit). f.size) measured.1
 
 -- the counts of the size that was read are the model's
 module _ (m : Model) {z : Size} (read : z ≡ size_of m) where
@@ -130,5 +118,5 @@ module _ (m : Model) {z : Size} (read : z ≡ size_of m) where
   triples_read e = e ∙ ap (λ (z : Size). triple_count z.symbols z.states) read
 
 pub fit_read : (m : Model) {z : Size} {h t : ℕ} → z ≡ size_of m → h ≡ heads_of m → t ≡ triples_of m
-    → ◌≡◌ {A = Fit} (record { refusal = 0; size = z; heads = h; triples = t }) (record { refusal = 0; size = size_of m; heads = heads_of m; triples = triples_of m })
+    → ◌≡◌ {A = Fit} (record { size = z; heads = h; triples = t }) (fit m)
 fit_read m {z} {h} {t} a b c = rw (a, b, c)

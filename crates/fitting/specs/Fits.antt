@@ -1,5 +1,5 @@
 -- What a call with a model and a table tests first: the record (refusal 6), then the length of the two arrays (7). Assumes nothing.
-use Rattle.std.specs.Prelude.{[], ◌∷◌, ℕ, ◌≤◌, T, ltb}
+use Rattle.std.specs.Prelude.{[], ◌∷◌, ℕ, ◌≤◌, T, ltb, Result, Ok, Err}
 use Rattle.text.specs.Split.{pick}
 use Rattle.product.specs.Answer.{Answer, refused}
 use Rattle.table.specs.declared.Size.{Size}
@@ -7,6 +7,8 @@ use Rattle.table.specs.Cells.{head_count, triple_count}
 use Rattle.model.specs.declared.Model.{Model}
 use Rattle.model.specs.Valid.{valid}
 use Rattle.fitting.specs.declared.Fit.{Fit}
+use Rattle.fitting.specs.declared.Unfit.{Unfit}
+use Rattle.fitting.specs.declared.Unfit.TheVariants.{Invalid, Short}
 
 -- the size of a model's table: its symbols, and the states of its product
 abbrev pub size_of : Model → Size
@@ -28,13 +30,17 @@ tested m heads triples invalid short well =
 abbrev pub guarded : {A : Type 0} → Model → (heads triples : ℕ) → Answer A → Answer A
 guarded m heads triples well = tested m heads triples (refused 6 (0 ∷ [])) (refused 7 (0 ∷ [])) well
 
--- the number of the refusal, or the size and the numbers of cells
-abbrev pub unfit : ℕ → Fit
-unfit n = record { refusal = n; size = record { symbols = 0; states = 0 }; heads = 0; triples = 0 }
+-- the document's number of each refusal
+abbrev pub refused_by : {A : Type 0} → Unfit → Answer A
+refused_by Invalid = refused 6 (0 ∷ [])
+refused_by Short = refused 7 (0 ∷ [])
 
-abbrev pub fit_of : Model → (heads triples : ℕ) → Fit
-fit_of m heads triples =
-    tested m heads triples (unfit 6) (unfit 7) (record { refusal = 0; size = size_of m; heads = heads_of m; triples = triples_of m })
+-- the size and the numbers of cells; or why there is none
+abbrev pub fit : Model → Fit
+fit m = record { size = size_of m; heads = heads_of m; triples = triples_of m }
+
+abbrev pub fit_of : Model → (heads triples : ℕ) → Result Fit Unfit
+fit_of m heads triples = tested m heads triples (Err Invalid) (Err Short) (Ok (fit m))
 
 -- the model is valid, and arrays of so many cells are long enough for its table
 pub record Fits (m : Model) (heads triples : ℕ) : Type 0 where

@@ -8,28 +8,19 @@ ghost use Rattle.fitting.specs.Fits.{size_of, fit_of};
 use lent::Lent;
 use table::Size;
 
-// The document's number of the refusal, or 0, and then the size of the model's table and how many cells each array has of it.
+// Why a model and two arrays are refused. specs/Fits.antt gives the document's number of each.
+#[derive(Clone, Copy, PartialEq, Eq, Debug)]
+pub enum Unfit {
+    Invalid,
+    Short,
+}
+
+// The size of a model's table, and how many cells each array has of it.
 #[derive(Clone, Copy)]
 pub struct Fit {
-    pub refusal: u8,
     pub size: Size,
     pub heads: usize,
     pub triples: usize,
-}
-
-fn refused(refusal: u8) -> Fit
-    ensures { result ≡ record { refusal = refusal; size = record { symbols = 0; states = 0 }; heads = 0; triples = 0 } }
-{
-    let size = Size {
-        symbols: 0,
-        states: 0,
-    };
-    Fit {
-        refusal,
-        size,
-        heads: 0,
-        triples: 0,
-    }
 }
 
 // The size of a model's table: its symbols, and the states of its product.
@@ -44,25 +35,21 @@ pub fn size_of(m: &Lent) -> Size
 }
 
 // Whether arrays of these lengths hold the table of a model.
-pub fn measure(m: &Lent, heads: usize, triples: usize) -> Fit
+pub fn measure(m: &Lent, heads: usize, triples: usize) -> Result<Fit, Unfit>
     ensures { result ≡ fit_of (model_in m.now) heads triples }
 {
     if !lent::is_valid(m) {
-        return refused(6);
+        return Err(Unfit::Invalid);
     }
     let size = size_of(m);
-    let h = table::head_count(size);
-    let t = table::triple_count(size);
-    if heads < h {
-        return refused(7);
+    let h = size.head_count();
+    let t = size.triple_count();
+    if heads < h || triples < t {
+        return Err(Unfit::Short);
     }
-    if triples < t {
-        return refused(7);
-    }
-    Fit {
-        refusal: 0,
+    Ok(Fit {
         size,
         heads: h,
         triples: t,
-    }
+    })
 }

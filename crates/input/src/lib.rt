@@ -14,12 +14,8 @@ fn read_some<R: Read>(reader: &mut R, space: &mut [u8]) -> Result<usize>
 {
     for _ in 0..u64::MAX {
         match reader.read(space) {
-            Ok(n) => return Ok(n),
-            Err(e) => {
-                if e.kind() != ErrorKind::Interrupted {
-                    return Err(e);
-                }
-            }
+            Err(e) if e.kind() == ErrorKind::Interrupted => {}
+            read => return read,
         }
     }
     Err(Error::from(ErrorKind::Interrupted))
@@ -32,6 +28,7 @@ pub fn read_full<R: Read>(reader: &mut R, space: &mut [u8]) -> Result<usize>
     ensures none_lost { OnErr result ((k : ℕ) × (k ≤ length space.new) × Consumes (R.remaining reader.old) (R.remaining reader.new) (take k space.new)) }
     ensures whole { IfOk result (λ n. n < length space.new → IsAtEnd (R.remaining reader.new)) }
 {
+    // It counts bytes and not reads: each read goes on by as many as it gave, so there is no range to go over.
     let mut filled = 0;
     while filled < space.len() {
         let n = read_some(reader, &mut space[filled..])?;

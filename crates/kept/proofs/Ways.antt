@@ -11,8 +11,8 @@ use Rattle.product.specs.Facts.{Fact, head, triple, enters, backs, returns, meet
 use Rattle.product.specs.Check.{keeps}
 use Rattle.product.proofs.Lists.{all_append}
 use Rattle.model.specs.declared.Rule.{Rule}
-use Rattle.model.specs.declared.Next.{Next}
-use Rattle.model.specs.declared.Next.TheVariants.{To, Stuck}
+use Rattle.std.specs.Prelude as code
+use Rattle.std.specs.Prelude.{Some, None}
 use Rattle.model.specs.Answers.{rule_as, meant, next_as, landed}
 use Rattle.model.proofs.Answers.{meant_as}
 use Rattle.model.proofs.Bounds.{landed_as}
@@ -20,14 +20,14 @@ use Rattle.kept.specs.Kept.{head_passes, triple_passes, triples_pass, return_pas
 
 module _ (states : ℕ) (t : Fact → Bool) (q : ℕ) where
   -- the next state was told
-  pub kept_stuck : (ρ : product.Rule) {n : Next} → n ≡ Stuck → true ≡ next_kept states t q ρ (landed n)
+  pub kept_stuck : (ρ : product.Rule) {n : code.Option ℕ} → n ≡ None → true ≡ next_kept states t q ρ (landed n)
   kept_stuck ρ e = rw e
 
-  pub kept_to : (ρ : product.Rule) (q' : ℕ) {n : Next} {b : Bool} → n ≡ To q' → b ≡ rule_kept states t q q' ρ → b ≡ next_kept states t q ρ (landed n)
+  pub kept_to : (ρ : product.Rule) (q' : ℕ) {n : code.Option ℕ} {b : Bool} → n ≡ Some q' → b ≡ rule_kept states t q q' ρ → b ≡ next_kept states t q ρ (landed n)
   kept_to ρ q' e k = rw e k
 
   -- rule and next state were read
-  pub kept_read : (ρ : product.Rule) (o : Option ℕ) {r : Rule} {n : Next} {b : Bool} → r ≡ rule_as ρ → n ≡ next_as o → b ≡ next_kept states t q (meant r) (landed n)
+  pub kept_read : (ρ : product.Rule) (o : Option ℕ) {r : Rule} {n : code.Option ℕ} {b : Bool} → r ≡ rule_as ρ → n ≡ next_as o → b ≡ next_kept states t q (meant r) (landed n)
       → b ≡ next_kept states t q ρ o
   kept_read ρ o r n k = k ∙ ap₂ (next_kept states t q) (ap meant r ∙ meant_as ρ) (ap landed n ∙ landed_as o)
 

@@ -1,16 +1,9 @@
 -- What the consequences of a step ask of the facts t of a table, one by one. Assumes nothing.
-use Rattle.std.specs.Prelude.{Bool, true, not, ◌&&◌, ◌||◌, List, ℕ}
+use Rattle.std.specs.Prelude.{Bool, true, not, ◌&&◌, ◌||◌, ℕ}
 use Rattle.std.proofs.Math.Option.{Option, none, some}
 use Rattle.product.specs.Lists.{up_to, all}
 use Rattle.product.specs.Product.{Rule, exit, direct, call}
 use Rattle.product.specs.Facts.{Fact, head, triple}
-use Rattle.product.specs.Table.{present}
-use Rattle.table.specs.declared.Size.{Size}
-use Rattle.table.specs.Cells.{view}
-
--- the facts of the two arrays: any number but 65,535 means present
-abbrev pub in_table : Size → (heads triples : List ℕ) → Fact → Bool
-in_table z hs ts = present (view z.symbols z.states hs ts)
 
 -- the fact f, if present, is passed on to the fact d
 abbrev pub passes : (Fact → Bool) → (f d : Fact) → Bool

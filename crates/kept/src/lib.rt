@@ -5,10 +5,11 @@
 ghost use Rattle.std.specs.Prelude.{◌≡◌};
 ghost use Rattle.table.specs.Places.{fact_of};
 ghost use Rattle.model.specs.Answers.{meant, landed};
-ghost use Rattle.kept.specs.Kept.{in_table, passes, triples_pass, both_pass, return_passes, returns_pass, rule_kept, next_kept};
+ghost use Rattle.table.specs.Looked.{held_in};
+ghost use Rattle.kept.specs.Kept.{passes, triples_pass, both_pass, return_passes, returns_pass, rule_kept, next_kept};
 
-use model::{Next, Rule};
-use table::{Fact, Size};
+use model::Rule;
+use table::{Fact, Table};
 
 // A step as it is passed on: from the state q with g on top to the state q2 with g1 on top.
 #[derive(Clone, Copy)]
@@ -19,123 +20,73 @@ struct Leg {
     g1: usize,
 }
 
-// The fact is present.
-pub fn has<'a>(heads: &'a [u16], triples: &'a [u16], size: Size, f: Fact) -> bool
-    ensures { result ≡ in_table size heads.now triples.now (fact_of f) }
-{
-    table::rank_at(heads, triples, size, f) != table::ABSENT
-}
-
 // The fact, if present, is passed on to the other.
-fn passes<'a>(heads: &'a [u16], triples: &'a [u16], size: Size, f: Fact, to: Fact) -> bool
-    ensures { result ≡ passes (in_table size heads.now triples.now) (fact_of f) (fact_of to) }
+fn passes(table: &Table<'_>, f: Fact, to: Fact) -> bool
+    ensures { result ≡ passes (held_in table.now) (fact_of f) (fact_of to) }
 {
-    if !has(heads, triples, size, f) {
-        return true;
-    }
-    has(heads, triples, size, to)
+    !table.has(f) || table.has(to)
 }
 
 // Every triple (q2, g1, e) that is present is passed back to (q, g).
-fn triples_pass<'a>(heads: &'a [u16], triples: &'a [u16], size: Size, leg: Leg) -> bool
-    ensures { result ≡ triples_pass size.states (in_table size heads.now triples.now) leg.q leg.g leg.q2 leg.g1 }
+fn triples_pass(table: &Table<'_>, leg: Leg) -> bool
+    ensures { result ≡ triples_pass table.now.size.states (held_in table.now) leg.q leg.g leg.q2 leg.g1 }
 {
-    let mut e: usize = 0;
-    while e < size.states as usize {
+    (0..table.size.states as usize).all(|e| {
         let f = Fact::Triple(leg.q2, leg.g1, e);
         let to = Fact::Triple(leg.q, leg.g, e);
-        if !passes(heads, triples, size, f, to) {
-            return false;
-        }
-        e += 1;
-    }
-    true
+        passes(table, f, to)
+    })
 }
 
 // As a direct step from (q, g) to (q2, g1) asks: the head is passed on, and the triples back.
-fn both_pass<'a>(heads: &'a [u16], triples: &'a [u16], size: Size, leg: Leg) -> bool
-    ensures { result ≡ both_pass size.states (in_table size heads.now triples.now) leg.q leg.g leg.q2 leg.g1 }
+fn both_pass(table: &Table<'_>, leg: Leg) -> bool
+    ensures { result ≡ both_pass table.now.size.states (held_in table.now) leg.q leg.g leg.q2 leg.g1 }
 {
     let f = Fact::Head(leg.q, leg.g);
     let to = Fact::Head(leg.q2, leg.g1);
-    if !passes(heads, triples, size, f, to) {
-        return false;
-    }
-    triples_pass(heads, triples, size, leg)
+    passes(table, f, to) && triples_pass(table, leg)
 }
 
 // A call that can erase g1 on the way to the state e goes on at (e, g2), as a direct step to there would.
-fn return_passes<'a>(
-    heads: &'a [u16],
-    triples: &'a [u16],
-    size: Size,
-    leg: Leg,
-    g2: usize,
-    e: usize,
-) -> bool
-    ensures { result ≡ return_passes size.states (in_table size heads.now triples.now) leg.q leg.g leg.q2 leg.g1 g2 e }
+fn return_passes(table: &Table<'_>, leg: Leg, g2: usize, e: usize) -> bool
+    ensures { result ≡ return_passes table.now.size.states (held_in table.now) leg.q leg.g leg.q2 leg.g1 g2 e }
 {
-    if !has(heads, triples, size, Fact::Triple(leg.q2, leg.g1, e)) {
-        return true;
-    }
     let on = Leg {
         q: leg.q,
         g: leg.g,
         q2: e,
         g1: g2,
     };
-    both_pass(heads, triples, size, on)
+    let erased = Fact::Triple(leg.q2, leg.g1, e);
+    !table.has(erased) || both_pass(table, on)
 }
 
-fn returns_pass<'a>(heads: &'a [u16], triples: &'a [u16], size: Size, leg: Leg, g2: usize) -> bool
-    ensures { result ≡ returns_pass size.states (in_table size heads.now triples.now) leg.q leg.g leg.q2 leg.g1 g2 }
+fn returns_pass(table: &Table<'_>, leg: Leg, g2: usize) -> bool
+    ensures { result ≡ returns_pass table.now.size.states (held_in table.now) leg.q leg.g leg.q2 leg.g1 g2 }
 {
-    let mut e: usize = 0;
-    while e < size.states as usize {
-        if !return_passes(heads, triples, size, leg, g2, e) {
-            return false;
-        }
-        e += 1;
-    }
-    true
+    (0..table.size.states as usize).all(|e| return_passes(table, leg, g2, e))
 }
 
 // The consequences of a step from q to q2 by the rule are present.
-fn rule_kept<'a>(
-    heads: &'a [u16],
-    triples: &'a [u16],
-    size: Size,
-    q: usize,
-    q2: usize,
-    rule: Rule,
-) -> bool
-    ensures { result ≡ rule_kept size.states (in_table size heads.now triples.now) q q2 (meant rule) }
+fn rule_kept(table: &Table<'_>, q: usize, q2: usize, rule: Rule) -> bool
+    ensures { result ≡ rule_kept table.now.size.states (held_in table.now) q q2 (meant rule) }
 {
     match rule {
-        Rule::Exit(g) => has(heads, triples, size, Fact::Triple(q, g, q2)),
-        Rule::Direct(g, g1) => both_pass(heads, triples, size, Leg { q, g, q2, g1 }),
+        Rule::Exit(g) => table.has(Fact::Triple(q, g, q2)),
+        Rule::Direct(g, g1) => both_pass(table, Leg { q, g, q2, g1 }),
         Rule::Call(g, g1, g2) => {
-            if !passes(heads, triples, size, Fact::Head(q, g), Fact::Head(q2, g1)) {
-                return false;
-            }
-            returns_pass(heads, triples, size, Leg { q, g, q2, g1 }, g2)
+            passes(table, Fact::Head(q, g), Fact::Head(q2, g1))
+                && returns_pass(table, Leg { q, g, q2, g1 }, g2)
         }
     }
 }
 
 // The consequences of the step that the rule makes from the state q to the next, if there is one.
-pub fn next_kept<'a>(
-    heads: &'a [u16],
-    triples: &'a [u16],
-    size: Size,
-    q: usize,
-    next: Next,
-    rule: Rule,
-) -> bool
-    ensures { result ≡ next_kept size.states (in_table size heads.now triples.now) q (meant rule) (landed next) }
+pub fn next_kept(table: &Table<'_>, q: usize, next: Option<usize>, rule: Rule) -> bool
+    ensures { result ≡ next_kept table.now.size.states (held_in table.now) q (meant rule) (landed next) }
 {
     match next {
-        Next::Stuck => true,
-        Next::To(q2) => rule_kept(heads, triples, size, q, q2, rule),
+        None => true,
+        Some(q2) => rule_kept(table, q, q2, rule),
     }
 }

@@ -13,8 +13,7 @@ use Rattle.product.specs.Lists.{up_to, all}
 use Rattle.product.specs.Product.{Step}
 use Rattle.model.specs.declared.Model.{Model}
 use Rattle.model.specs.declared.Shape.{Shape}
-use Rattle.model.specs.declared.Next.{Next}
-use Rattle.model.specs.declared.Next.TheVariants.{Stuck}
+use Rattle.std.specs.Prelude.{Option, None}
 use Rattle.model.specs.declared.Move.{Move}
 use Rattle.model.specs.Valid.{sizes_in, symbols_in, rule_row_in, move_row_in, valid}
 use Rattle.model.specs.Model.{in_row, rule_by, move_at, shown, there, next_at, product_of}
@@ -111,8 +110,8 @@ module _ (m : Model) (r v q : ℕ) where
   abbrev named : Step
   named = record { by_rule = r; by_move = v }
 
-  pub not_there : there m named ≡ false → Stuck ≡ next_as (next_by (product_of m) r v q)
+  pub not_there : there m named ≡ false → None ≡ next_as (next_by (product_of m) r v q)
   not_there e = rw e
 
-  pub is_there : {n : Next} → there m named ≡ true → n ≡ next_as (next_at m.rulerows m.moverows m.shows r v q) → n ≡ next_as (next_by (product_of m) r v q)
+  pub is_there : {n : Option ℕ} → there m named ≡ true → n ≡ next_as (next_at m.rulerows m.moverows m.shows r v q) → n ≡ next_as (next_by (product_of m) r v q)
   is_there e i = rw e i

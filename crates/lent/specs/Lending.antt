@@ -1,13 +1,12 @@
 -- A model as one array of bytes, as it is lent to the calls above: which record such bytes are, and which product. Assumes nothing.
 -- Four numbers a rule from 0 on, three a move from 1,024, a truth for each symbol and event from 1,408, one for each state that is final from 1,920;
 -- from 1,928 on symbols, states, events, start state, start symbol, the number of rules, its low byte first, and the number of moves.
-use Rattle.std.specs.Prelude.{Bool, cond, List, [], ◌∷◌, ◌++◌, map, ◌≡◌, ℕ, ◌+◌, ◌*◌, ◌/◌, ◌%◌, ◌≤◌, eqb, length, get_or, take, drop}
+use Rattle.std.specs.Prelude as code
+use Rattle.std.specs.Prelude.{Some, None, Bool, cond, List, [], ◌∷◌, ◌++◌, map, ◌≡◌, ℕ, ◌+◌, ◌*◌, ◌/◌, ◌%◌, ◌≤◌, eqb, length, get_or, take, drop}
 use Rattle.std.proofs.Math.Option.{Option}
 use Rattle.product.specs.Product.{Product}
 use Rattle.model.specs.declared.Model.{Model}
 use Rattle.model.specs.declared.Shape.{Shape}
-use Rattle.model.specs.declared.Next.{Next}
-use Rattle.model.specs.declared.Next.TheVariants.{To, Stuck}
 use Rattle.model.specs.Model.{in_row, product_of}
 use Rattle.model.specs.Valid.{of_parts}
 use Rattle.lent.specs.declared.Row.{Row}
@@ -65,9 +64,9 @@ abbrev pub next_by : Product → (r v q : ℕ) → Option ℕ
 next_by p r v q = p.next (record { by_rule = r; by_move = v }) q
 
 -- a state that was read is a byte
-abbrev pub InByte : Next → Type 0
-InByte Stuck = Unit {0}
-InByte (To q) = q ≤ 255
+abbrev pub InByte : code.Option ℕ → Type 0
+InByte None = Unit {0}
+InByte (Some q) = q ≤ 255
 
 -- The bytes of a record: its rules, its moves, what is shown, what is final; then the last eight, which say the rest of it in the order above.
 unfoldable pub laid : Model → (last : List ℕ) → List ℕ

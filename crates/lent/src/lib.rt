@@ -3,16 +3,16 @@
 
 ghost use Rattle.std.specs.Prelude.{◌≡◌, ◌+◌, ◌*◌, ◌≤◌, ◌<◌, replicate};
 ghost use Rattle.lent.specs.Lending.{part, shape_in, row_in, model_in, product_in, next_by, InByte};
-ghost use Rattle.product.specs.Product.{symbol};
-ghost use Rattle.model.specs.Answers.{meant, next_as, rule_as};
+ghost use Rattle.model.specs.Answers.{next_as, rule_as};
 ghost use Rattle.model.specs.Model.{in_row, move, shown, there};
 
-use model::{Move, Next, Rule, Shape};
+use model::{Move, Rule, Shape};
 
 // A model's bytes.
 pub type Lent = [u8; 1936];
 
-// The numbers of a rule's row: its kind (0 exit, 1 direct, 2 call), its symbol, and the symbols that it puts on top and under that.
+// The numbers of a rule's row: its kind (0 exit, 1 direct, 2 call), its symbol, and the symbols that it puts on top and under that. The kind stays
+// a byte: any byte may stand in a lent array, and whether it is a kind is tested by `is_valid`.
 #[derive(Clone, Copy)]
 pub struct Row {
     pub kind: u8,
@@ -32,19 +32,12 @@ pub fn blank() -> Lent
     [0u8; 1936]
 }
 
-fn wide(b: u8) -> usize
-    ensures { (result ≡ b) × (result ≤ 255) }
-{
-    b as usize
-}
-
 // What the model says beside its rules, its moves and its truths.
 pub fn shape(m: &Lent) -> Shape
     ensures { result ≡ shape_in m.now }
 {
-    let low = wide(m[1933]);
-    let high = wide(m[1934]);
-    let moves = wide(m[1935]);
+    let low = usize::from(m[1933]);
+    let high = usize::from(m[1934]);
     Shape {
         symbols: m[1928],
         states: m[1929],
@@ -52,7 +45,7 @@ pub fn shape(m: &Lent) -> Shape
         startstate: m[1931],
         startsymbol: m[1932],
         rules: low + 256 * high,
-        moves,
+        moves: usize::from(m[1935]),
     }
 }
 
@@ -86,7 +79,7 @@ fn in_move(m: &Lent, v: usize, i: usize) -> usize
     if 128 <= v {
         return 0;
     }
-    wide(m[1024 + v * 3 + i])
+    usize::from(m[1024 + v * 3 + i])
 }
 
 // Rule r.
@@ -94,15 +87,13 @@ pub fn rule_at(m: &Lent, r: usize) -> Rule
     ensures { result ≡ rule_as ((product_in m.now).rule r) }
 {
     let row = row_at(m, r);
-    let g = row.symbol as usize;
-    if row.kind == 0 {
-        return Rule::Exit(g);
+    let g = usize::from(row.symbol);
+    let g1 = usize::from(row.over);
+    match row.kind {
+        0 => Rule::Exit(g),
+        1 => Rule::Direct(g, g1),
+        _ => Rule::Call(g, g1, usize::from(row.under)),
     }
-    let g1 = row.over as usize;
-    if row.kind == 1 {
-        return Rule::Direct(g, g1);
-    }
-    Rule::Call(g, g1, row.under as usize)
 }
 
 // Move v.
@@ -121,10 +112,7 @@ pub fn move_at(m: &Lent, v: usize) -> Move
 pub fn is_final(m: &Lent, q: usize) -> bool
     ensures { result ≡ (product_in m.now).final q }
 {
-    if 8 <= q {
-        return false;
-    }
-    m[1920 + q] % 2 == 1
+    q < 8 && m[1920 + q] % 2 == 1
 }
 
 // The symbol shows the event; every symbol shows event 0.
@@ -134,28 +122,11 @@ pub fn shows(m: &Lent, g: usize, e: usize) -> bool
     if e == 0 {
         return true;
     }
-    if 32 <= g {
-        return false;
-    }
-    if 512 <= e {
+    if 32 <= g || 512 <= e {
         return false;
     }
     let at = g * 16 + e;
-    if 512 <= at {
-        return false;
-    }
-    m[1408 + at] % 2 == 1
-}
-
-// The symbol that a rule replaces.
-fn symbol(rule: Rule) -> usize
-    ensures { result ≡ symbol (meant rule) }
-{
-    match rule {
-        Rule::Exit(g) => g,
-        Rule::Direct(g, _) => g,
-        Rule::Call(g, _, _) => g,
-    }
+    at < 512 && m[1408 + at] % 2 == 1
 }
 
 // The model has rule r and move v.
@@ -163,28 +134,25 @@ fn has(m: &Lent, r: usize, v: usize) -> bool
     ensures { result ≡ there (model_in m.now) (record { by_rule = r; by_move = v }) }
 {
     let s = shape(m);
-    if s.rules <= r {
-        return false;
-    }
-    v < s.moves
+    r < s.rules && v < s.moves
 }
 
-// The one meaning of a step: the state after rule r and move v from state q. The move starts at q, and the rule's symbol, on top before the step,
-// shows its event.
-pub fn next_state(m: &Lent, r: usize, v: usize, q: usize) -> Next
+// The one meaning of a step: the state after rule r and move v from state q, or none, where they make no step. The move starts at q, and
+// the rule's symbol, on top before the step, shows its event.
+pub fn next_state(m: &Lent, r: usize, v: usize, q: usize) -> Option<usize>
     ensures value { result ≡ next_as (next_by (product_in m.now) r v q) }
     ensures in_byte { InByte result }
 {
     if !has(m, r, v) {
-        return Next::Stuck;
+        return None;
     }
     let by = move_at(m, v);
     if by.source != q {
-        return Next::Stuck; // the move starts elsewhere
+        return None; // the move starts elsewhere
     }
-    let g = symbol(rule_at(m, r));
+    let g = rule_at(m, r).symbol();
     if !shows(m, g, by.event) {
-        return Next::Stuck; // the symbol does not show the event
+        return None; // the symbol does not show the event
     }
-    Next::To(by.target)
+    Some(by.target)
 }

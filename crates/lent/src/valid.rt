@@ -17,51 +17,27 @@ fn within(low: usize, high: usize, n: usize) -> bool
 fn sizes_in(symbols: usize, states: usize, events: usize, rules: usize, moves: usize) -> bool
     ensures { result ≡ sizes_in symbols states events rules moves }
 {
-    if !within(1, 32, symbols) {
-        return false;
-    }
-    if !within(1, 8, states) {
-        return false;
-    }
-    if !within(1, 16, events) {
-        return false;
-    }
-    rules <= 256 && moves <= 128
+    within(1, 32, symbols)
+        && within(1, 8, states)
+        && within(1, 16, events)
+        && rules <= 256
+        && moves <= 128
 }
 
-// The row is a rule, with its symbols in range.
+// The row is a rule, with its symbols in range: a direct rule and a call push one, and a call a second.
 fn row_in(row: Row, symbols: u8) -> bool
     ensures { result ≡ leb row.kind 2 && symbols_in symbols (rule_by row.kind row.symbol row.over row.under) }
 {
-    if 2 < row.kind {
-        return false;
-    }
-    if symbols <= row.symbol {
-        return false;
-    }
-    if row.kind < 1 {
-        return true; // it pushes none
-    }
-    if symbols <= row.over {
-        return false;
-    }
-    if row.kind < 2 {
-        return true; // it pushes one
-    }
-    row.under < symbols
+    row.kind <= 2
+        && row.symbol < symbols
+        && (row.kind < 1 || row.over < symbols)
+        && (row.kind < 2 || row.under < symbols)
 }
 
 fn rules_in(m: &Lent, symbols: u8, count: usize) -> bool
     ensures { result ≡ all (rule_row_in symbols (part 0 1024 m.now)) (up_to count) }
 {
-    let mut r: usize = 0;
-    while r < count {
-        if !row_in(row_at(m, r), symbols) {
-            return false;
-        }
-        r += 1;
-    }
-    true
+    (0..count).all(|r| row_in(row_at(m, r), symbols))
 }
 
 // Row v is a move, with its states and its event in range.
@@ -69,26 +45,13 @@ fn move_in(m: &Lent, states: usize, events: usize, v: usize) -> bool
     ensures { result ≡ move_row_in states events (part 1024 384 m.now) v }
 {
     let by = move_at(m, v);
-    if states <= by.source {
-        return false;
-    }
-    if events <= by.event {
-        return false;
-    }
-    by.target < states
+    by.source < states && by.event < events && by.target < states
 }
 
 fn moves_in(m: &Lent, states: usize, events: usize, count: usize) -> bool
     ensures { result ≡ all (move_row_in states events (part 1024 384 m.now)) (up_to count) }
 {
-    let mut v: usize = 0;
-    while v < count {
-        if !move_in(m, states, events, v) {
-            return false;
-        }
-        v += 1;
-    }
-    true
+    (0..count).all(|v| move_in(m, states, events, v))
 }
 
 // The model is valid; if not, it is refusal 6. The counts come first, so that no more rows are looked at than there are.
@@ -96,16 +59,11 @@ pub fn is_valid(m: &Lent) -> bool
     ensures { result ≡ valid (model_in m.now) }
 {
     let s = shape(m);
-    let states = s.states as usize;
-    let events = s.events as usize;
-    if !sizes_in(s.symbols as usize, states, events, s.rules, s.moves) {
-        return false;
-    }
-    if s.states <= s.startstate {
-        return false;
-    }
-    if s.symbols <= s.startsymbol {
-        return false;
-    }
-    rules_in(m, s.symbols, s.rules) && moves_in(m, states, events, s.moves)
+    let states = usize::from(s.states);
+    let events = usize::from(s.events);
+    sizes_in(usize::from(s.symbols), states, events, s.rules, s.moves)
+        && s.startstate < s.states
+        && s.startsymbol < s.symbols
+        && rules_in(m, s.symbols, s.rules)
+        && moves_in(m, states, events, s.moves)
 }

@@ -1,10 +1,12 @@
-// Whether a line may stand in a model text: the number of its refusal, by what was read before it. specs/Limits.antt has
-// the tests of each line.
+// Whether a line may stand in a model text, or what is wrong with it, by what was read before it. specs/Limits.antt has the
+// tests of each line.
 #![tactic(auto)]
 
-ghost use Rattle.std.specs.Prelude.{◌||◌, ◌≡◌};
+ghost use Rattle.std.specs.Prelude.{◌≡◌};
+ghost use Rattle.line.specs.Fault.{number_in};
 ghost use Rattle.limits.specs.Limits.{refusal, judged, uncounted, size_tests, start_tests, final_tests, event_tests, rule_tests, move_tests, tests};
 
+use line::Fault;
 use modelline::{Line, Word};
 use numbers::Numbers;
 
@@ -19,7 +21,7 @@ const RULES: usize = 256;
 const MOVES: usize = 128;
 
 // What a line is tested against: the sizes, 0 before they are given; `started`, 0 before the start is; the rules and the
-// moves so far.
+// moves so far. `started` stays a number: a bool would take fewer values from the callers of `check_line` and `take_line`.
 #[derive(Clone, Copy)]
 pub struct Counts {
     pub symbols: u8,
@@ -39,48 +41,33 @@ fn first_of(
     second: bool,
     third: bool,
     full: bool,
-) -> u8
-    ensures { result ≡ refusal (judged malformed misplaced first second third full) }
+) -> Result<(), Fault>
+    ensures { number_in result ≡ refusal (judged malformed misplaced first second third full) }
 {
     if malformed {
-        return 2;
+        return Err(Fault::Malformed);
     }
     if misplaced {
-        return 3;
+        return Err(Fault::Misplaced);
     }
-    if first {
-        return 4;
-    }
-    if second {
-        return 4;
-    }
-    if third {
-        return 4;
+    if first || second || third {
+        return Err(Fault::OutOfRange);
     }
     if full {
-        return 5;
+        return Err(Fault::TooMany);
     }
-    0
-}
-
-fn either(a: bool, b: bool) -> bool
-    ensures { result ≡ (a || b) }
-{
-    if a {
-        return true;
-    }
-    b
+    Ok(())
 }
 
 // Whether n is no count from 1 to `most`.
 fn uncounted(most: u32, n: u32) -> bool
     ensures { result ≡ uncounted most n }
 {
-    either(n < 1, most < n)
+    n < 1 || most < n
 }
 
-fn size_refusal(k: Counts, n: Numbers) -> u8
-    ensures { result ≡ refusal (size_tests k n) }
+fn check_size(k: Counts, n: Numbers) -> Result<(), Fault>
+    ensures { number_in result ≡ refusal (size_tests k n) }
 {
     let at = n.at;
     first_of(
@@ -93,15 +80,15 @@ fn size_refusal(k: Counts, n: Numbers) -> u8
     )
 }
 
-fn start_refusal(k: Counts, n: Numbers) -> u8
-    ensures { result ≡ refusal (start_tests k n) }
+fn check_start(k: Counts, n: Numbers) -> Result<(), Fault>
+    ensures { number_in result ≡ refusal (start_tests k n) }
 {
     let at = n.at;
-    let symbols = k.symbols as u32;
-    let states = k.states as u32;
+    let symbols = u32::from(k.symbols);
+    let states = u32::from(k.states);
     first_of(
         n.count != 2,
-        either(symbols == 0, 0 < k.started),
+        symbols == 0 || 0 < k.started,
         states <= at[0],
         symbols <= at[1],
         false,
@@ -109,11 +96,11 @@ fn start_refusal(k: Counts, n: Numbers) -> u8
     )
 }
 
-fn final_refusal(k: Counts, n: Numbers) -> u8
-    ensures { result ≡ refusal (final_tests k n) }
+fn check_final(k: Counts, n: Numbers) -> Result<(), Fault>
+    ensures { number_in result ≡ refusal (final_tests k n) }
 {
     let at = n.at;
-    let states = k.states as u32;
+    let states = u32::from(k.states);
     first_of(
         n.count != 1,
         k.symbols == 0,
@@ -124,12 +111,12 @@ fn final_refusal(k: Counts, n: Numbers) -> u8
     )
 }
 
-fn event_refusal(k: Counts, n: Numbers) -> u8
-    ensures { result ≡ refusal (event_tests k n) }
+fn check_event(k: Counts, n: Numbers) -> Result<(), Fault>
+    ensures { number_in result ≡ refusal (event_tests k n) }
 {
     let at = n.at;
-    let symbols = k.symbols as u32;
-    let events = k.events as u32;
+    let symbols = u32::from(k.symbols);
+    let events = u32::from(k.events);
     first_of(
         n.count != 2,
         symbols == 0,
@@ -141,11 +128,11 @@ fn event_refusal(k: Counts, n: Numbers) -> u8
 }
 
 // By the count of symbols that a rule takes. Those that a line does not have are read as 0, which is always in range.
-fn rule_refusal(takes: usize, k: Counts, n: Numbers) -> u8
-    ensures { result ≡ refusal (rule_tests takes k n) }
+fn check_rule(takes: usize, k: Counts, n: Numbers) -> Result<(), Fault>
+    ensures { number_in result ≡ refusal (rule_tests takes k n) }
 {
     let at = n.at;
-    let symbols = k.symbols as u32;
+    let symbols = u32::from(k.symbols);
     first_of(
         n.count != takes,
         symbols == 0,
@@ -156,12 +143,12 @@ fn rule_refusal(takes: usize, k: Counts, n: Numbers) -> u8
     )
 }
 
-fn move_refusal(k: Counts, n: Numbers) -> u8
-    ensures { result ≡ refusal (move_tests k n) }
+fn check_move(k: Counts, n: Numbers) -> Result<(), Fault>
+    ensures { number_in result ≡ refusal (move_tests k n) }
 {
     let at = n.at;
-    let states = k.states as u32;
-    let events = k.events as u32;
+    let states = u32::from(k.states);
+    let events = u32::from(k.events);
     first_of(
         n.count != 3,
         k.symbols == 0,
@@ -172,21 +159,21 @@ fn move_refusal(k: Counts, n: Numbers) -> u8
     )
 }
 
-// The number of a line's refusal by its word and its numbers, 0 where it is taken.
-pub fn refusal_of(k: Counts, l: Line) -> u8
-    ensures { result ≡ refusal (tests k l.word l.numbers) }
+// Whether a line is taken, by its word and its numbers, or what is wrong with it.
+pub fn check_line(k: Counts, l: Line) -> Result<(), Fault>
+    ensures { number_in result ≡ refusal (tests k l.word l.numbers) }
 {
     let w = l.word;
     let n = l.numbers;
     match w {
-        Word::Size => size_refusal(k, n),
-        Word::Start => start_refusal(k, n),
-        Word::Final => final_refusal(k, n),
-        Word::Event => event_refusal(k, n),
-        Word::Exit => rule_refusal(1, k, n),
-        Word::Direct => rule_refusal(2, k, n),
-        Word::Call => rule_refusal(3, k, n),
-        Word::Move => move_refusal(k, n),
-        Word::Unknown => 2,
+        Word::Size => check_size(k, n),
+        Word::Start => check_start(k, n),
+        Word::Final => check_final(k, n),
+        Word::Event => check_event(k, n),
+        Word::Exit => check_rule(1, k, n),
+        Word::Direct => check_rule(2, k, n),
+        Word::Call => check_rule(3, k, n),
+        Word::Move => check_move(k, n),
+        Word::Unknown => Err(Fault::Malformed),
     }
 }

@@ -6,6 +6,12 @@ ghost use Rattle.line.specs.Line.{spells, from};
 
 use numbers::{FieldsRead, MOST, Numbers};
 
+mod fault; // what is wrong with a text
+mod words; // the lines of a text whose words are known
+
+pub use fault::{Fault, TextError};
+pub use words::{Line, LineRead, Words, read_line};
+
 // Whether s begins with `word` and a tab behind it. The tab is looked for first: it turns most other words away.
 pub fn spells(s: &[u8], word: &[u8]) -> bool
     ensures { result ≡ spells s.now word.now }

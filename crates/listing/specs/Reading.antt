@@ -1,23 +1,24 @@
 -- What reading a listing answers, and what it leaves in the two lent arrays. Assumes nothing.
-use Rattle.std.specs.Prelude.{List, [], ◌∷◌, ◌≡◌, ℕ, zero, suc, eqb, length, get_or, set}
+use Rattle.std.specs.Prelude.{List, [], ◌∷◌, ◌≡◌, ℕ, zero, suc, Result, Ok, Err, eqb, length, get_or, set}
 use Rattle.text.specs.Split.{pick}
 use Rattle.product.specs.Answer.{Answer, answered, refused}
 use Rattle.model.specs.declared.Model.{Model}
-use Rattle.fitting.specs.Fits.{size_of, heads_of, triples_of, tested, guarded}
+use Rattle.line.specs.Fault.{text_number, text_line}
+use Rattle.fitting.specs.Fits.{size_of, heads_of, triples_of, tested, guarded, refused_by}
 use Rattle.rows.specs.State.{Ended}
 use Rattle.rows.specs.Lines.{start_state, read_text}
-use Rattle.listing.specs.declared.ListingRead.{ListingRead}
-use Rattle.listing.specs.declared.ListingRead.TheVariants.{Accepted, Invalid, Short, TooLong, Malformed, Misplaced, OutOfRange}
+use Rattle.listing.specs.declared.ListingError.{ListingError}
+use Rattle.listing.specs.declared.ListingError.TheVariants.{Refused, Text}
+
+-- the code's answer
+abbrev pub ListingRead : Type 0
+ListingRead = Result ℕ ListingError
 
 -- the document's number and values of each answer; without a refusal, the rounds
 abbrev pub meaning : ListingRead → Answer ℕ
-meaning (Accepted rounds) = answered rounds
-meaning Invalid = refused 6 (0 ∷ [])
-meaning Short = refused 7 (0 ∷ [])
-meaning TooLong = refused 1 (0 ∷ [])
-meaning (Malformed line) = refused 2 (line ∷ [])
-meaning (Misplaced line) = refused 3 (line ∷ [])
-meaning (OutOfRange line) = refused 4 (line ∷ [])
+meaning (Ok rounds) = answered rounds
+meaning (Err (Refused unfit)) = refused_by unfit
+meaning (Err (Text e)) = refused (text_number e) (text_line e ∷ [])
 
 -- the lines of a listing
 abbrev pub lines_of : Model → List ℕ → Ended
@@ -26,10 +27,6 @@ lines_of m text = read_text (size_of m) start_state text
 -- the rounds that were read, or the number of the refusal with its line
 unfoldable pub answer_of : Ended → Answer ℕ
 answer_of r = pick (eqb r.refusal 0) (answered r.state.rounds) (refused r.refusal (r.line ∷ []))
-
--- the code's answer for that number and line
-unfoldable pub refused_as : ℕ → ℕ → ListingRead
-refused_as n line = pick (eqb n 1) TooLong (pick (eqb n 2) (Malformed line) (pick (eqb n 3) (Misplaced line) (OutOfRange line)))
 
 -- the first n cells as collected, the others as before
 unfoldable pub filled : ℕ → (collected before : List ℕ) → List ℕ

@@ -3,37 +3,36 @@
 
 ghost use Rattle.std.specs.Prelude.{◌≡◌, ℕ, ◌≤◌, length};
 ghost use Rattle.lent.specs.Lending.{model_in};
-ghost use Rattle.listing.specs.Reading.{refused_as, filled, Reads};
+ghost use Rattle.listing.specs.declared.ListingError.TheVariants.{Refused, Text};
+ghost use Rattle.listing.specs.Reading.{filled, Reads};
 
+use fitting::Unfit;
 use lent::Lent;
-use table::{ABSENT, Size};
+use line::TextError;
+use rows::Tally;
+use table::ABSENT;
 
-// The rounds of an accepted listing, or why it is refused and the line.
-#[derive(Clone, Copy)]
-pub enum ListingRead {
-    Accepted(u16),
-    Invalid,
-    Short,
-    TooLong,
-    Malformed(usize),
-    Misplaced(usize),
-    OutOfRange(usize),
+// Why a listing gives no table: the model or the arrays are refused, or the text is. specs/Reading.antt gives the document's number of each.
+#[derive(Clone, Copy, PartialEq, Eq, Debug)]
+pub enum ListingError {
+    Refused(Unfit),
+    Text(TextError),
 }
 
-// The answer for a refusal of 1 to 4.
-fn refused_as(n: u8, line: usize) -> ListingRead
-    ensures { result ≡ refused_as n line }
-{
-    if n == 1 {
-        return ListingRead::TooLong;
+impl From<Unfit> for ListingError {
+    ghost from_gives = { λ unfit e. e ≡ Refused unfit };
+
+    fn from(unfit: Unfit) -> Self {
+        ListingError::Refused(unfit)
     }
-    if n == 2 {
-        return ListingRead::Malformed(line);
+}
+
+impl From<TextError> for ListingError {
+    ghost from_gives = { λ wrong e. e ≡ Text wrong };
+
+    fn from(wrong: TextError) -> Self {
+        ListingError::Text(wrong)
     }
-    if n == 3 {
-        return ListingRead::Misplaced(line);
-    }
-    ListingRead::OutOfRange(line)
 }
 
 // Copies the first n cells.
@@ -42,34 +41,24 @@ fn copy(from: &[u16], to: &mut [u16], n: usize)
     requires n_in_bounds_2 { n ≤ length to.old }
     ensures { to.new ≡ filled n from.now to.old }
 {
-    let mut i: usize = 0;
-    while i < n {
-        to[i] = from[i];
-        i += 1;
-    }
+    to[..n].copy_from_slice(&from[..n]);
 }
 
-// The table of a listing, for a model: collected first, and copied into the two arrays where the whole is accepted.
-pub fn read_listing(m: &Lent, text: &[u8], heads: &mut [u16], triples: &mut [u16]) -> ListingRead
+// The rounds of a listing and its table, for a model: the table is collected first, and copied into the two arrays where the whole is accepted.
+pub fn read_listing(
+    m: &Lent,
+    text: &[u8],
+    heads: &mut [u16],
+    triples: &mut [u16],
+) -> Result<u16, ListingError>
     ensures { Reads (model_in m.now) text.now heads.old triples.old heads.new triples.new result }
 {
-    let fit = fitting::measure(m, heads.len(), triples.len());
-    if fit.refusal == 6 {
-        return ListingRead::Invalid;
-    }
-    if fit.refusal == 7 {
-        return ListingRead::Short;
-    }
-    let size = fit.size;
+    let fit = fitting::measure(m, heads.len(), triples.len())?;
     let mut headcells = [ABSENT; 256];
     let mut triplecells = [ABSENT; 2048];
-    let r = rows::read_text(&mut headcells, &mut triplecells, size, text);
-    let number = r.refusal;
-    if number != 0 {
-        return refused_as(number, r.line);
-    }
+    let mut tally = Tally::default();
+    rows::read_text(&mut headcells, &mut triplecells, &mut tally, fit.size, text)?;
     copy(&headcells, heads, fit.heads);
     copy(&triplecells, triples, fit.triples);
-    let tally = r.tally;
-    ListingRead::Accepted(tally.rounds)
+    Ok(tally.rounds)
 }

@@ -9,7 +9,7 @@ use Rattle.product.specs.Product.{exit, direct, call, symbol}
 use Rattle.model.specs.declared.Rule.{Rule}
 use Rattle.model.specs.declared.Rule.TheVariants.{Exit, Direct, Call}
 use Rattle.model.specs.declared.Move.{Move}
-use Rattle.model.specs.declared.Next.TheVariants.{To, Stuck}
+use Rattle.std.specs.Prelude.{Some, None}
 use Rattle.model.specs.Model.{in_row, rule_at, move_at, shows_at, fits_at, next_at}
 use Rattle.model.specs.Answers.{rule_as, meant, next_as}
 
@@ -31,7 +31,7 @@ module _ (rows : List ℕ) (r : ℕ) {k g : ℕ} (kind : k ≡ in_row 4 rows r 0
 
 -- the state after a step, by the move, the symbol and what it shows that were read
 module _ (rulerows moverows : List ℕ) (shows : List Bool) (r v q : ℕ) {μ : Move} (by : μ ≡ move_at moverows v) where
-  pub is_elsewhere : (μ.source ≡ q → ⊥) → Stuck ≡ next_as (next_at rulerows moverows shows r v q)
+  pub is_elsewhere : (μ.source ≡ q → ⊥) → None ≡ next_as (next_at rulerows moverows shows r v q)
   is_elsewhere n = rw (ne_eqb (move_at moverows v).source q (λ e. n (ap (λ (x : Move). x.source) by ∙ e)))
 
   module _ {ρ : Rule} {g : ℕ} {b : Bool} (here : μ.source ≡ q) (read : ρ ≡ rule_as (rule_at rulerows r)) (top : g ≡ symbol (meant ρ)) (seen : b ≡ shows_at shows g μ.event) where
@@ -41,8 +41,8 @@ module _ (rulerows moverows : List ℕ) (shows : List Bool) (r v q : ℕ) {μ : 
         subst (λ (μ : Move). fits_at (rule_at rulerows r) μ shows q ≡ b) by
         (rw (eq-eqb μ.source q here) (sym (seen ∙ ap (λ (g : ℕ). shows_at shows g μ.event) s)))
 
-    pub is_unseen : b ≡ false → Stuck ≡ next_as (next_at rulerows moverows shows r v q)
+    pub is_unseen : b ≡ false → None ≡ next_as (next_at rulerows moverows shows r v q)
     is_unseen n = rw (fits_as ∙ n)
 
-    pub is_step : b ≡ true → To μ.target ≡ next_as (next_at rulerows moverows shows r v q)
+    pub is_step : b ≡ true → Some μ.target ≡ next_as (next_at rulerows moverows shows r v q)
     is_step y = rw (fits_as ∙ y, by)

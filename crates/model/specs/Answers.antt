@@ -1,12 +1,11 @@
 -- The answers of the code as the theory has them, a rule and the state after a step. Assumes nothing.
 use Rattle.std.proofs.Math.Option.{Option, none, some}
-use Rattle.std.specs.Prelude.{ℕ}
+use Rattle.std.specs.Prelude as code
+use Rattle.std.specs.Prelude.{ℕ, Some, None}
 use Rattle.product.specs.Product as product
 use Rattle.product.specs.Product.{exit, direct, call}
 use Rattle.model.specs.declared.Rule.{Rule}
 use Rattle.model.specs.declared.Rule.TheVariants.{Exit, Direct, Call}
-use Rattle.model.specs.declared.Next.{Next}
-use Rattle.model.specs.declared.Next.TheVariants.{To, Stuck}
 
 abbrev pub rule_as : product.Rule → Rule
 rule_as (exit g) = Exit g
@@ -18,10 +17,11 @@ meant (Exit g) = exit g
 meant (Direct g g1) = direct g g1
 meant (Call g g1 g2) = call g g1 g2
 
-abbrev pub next_as : Option ℕ → Next
-next_as none = Stuck
-next_as (some q) = To q
+-- the theory's optional state in the code and back
+abbrev pub next_as : Option ℕ → code.Option ℕ
+next_as none = None
+next_as (some q) = Some q
 
-abbrev pub landed : Next → Option ℕ
-landed Stuck = none
-landed (To q) = some q
+abbrev pub landed : code.Option ℕ → Option ℕ
+landed None = none
+landed (Some q) = some q

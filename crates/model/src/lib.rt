@@ -1,6 +1,10 @@
 // The model record: what a model text says, as numbers. specs/Model.antt says which product it means.
 #![tactic(auto)]
 
+ghost use Rattle.std.specs.Prelude.{◌≡◌};
+ghost use Rattle.product.specs.Product.{symbol};
+ghost use Rattle.model.specs.Answers.{meant};
+
 // Counts, the start, and arrays by number. A row of `rulerows` is a rule: its kind (0 exit, 1 direct, 2 call), its symbol, and the
 // one or two symbols that it pushes, the top first. A row of `moverows` is a move: state, event, state. `shows` has symbol·16 + event.
 #[derive(Drop)]
@@ -38,17 +42,23 @@ pub enum Rule {
     Call(usize, usize, usize),
 }
 
+impl Rule {
+    // The symbol that the rule replaces.
+    pub fn symbol(self) -> usize
+        ensures { result ≡ symbol (meant self) }
+    {
+        match self {
+            Rule::Exit(g) => g,
+            Rule::Direct(g, _) => g,
+            Rule::Call(g, _, _) => g,
+        }
+    }
+}
+
 // A property move, from a state by an event to a state.
 #[derive(Clone, Copy)]
 pub struct Move {
     pub source: usize,
     pub event: usize,
     pub target: usize,
-}
-
-// The property state after a step, or none, where rule and move make no step.
-#[derive(Clone, Copy)]
-pub enum Next {
-    To(usize),
-    Stuck,
 }

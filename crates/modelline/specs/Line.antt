@@ -1,13 +1,12 @@
 -- The words of a model text, and what one of its lines says: its word and its numbers. Assumes nothing.
-use Rattle.std.specs.Prelude.{List, [], ◌∷◌, ℕ, length}
-use Rattle.text.specs.Split.{pick, first, split, same_bytes}
-use Rattle.numbers.specs.Number.{wrong, numbers_of}
+use Rattle.std.specs.Prelude.{List, [], ◌∷◌, ℕ, IsTrue, refl}
+use Rattle.text.specs.Split.{without}
 use Rattle.numbers.specs.declared.Numbers.{Numbers}
-use Rattle.line.specs.Line.{from}
+use Rattle.line.specs.Words as any
+use Rattle.line.specs.declared.words.Line.{Line}
+use Rattle.line.specs.declared.words.LineRead.{LineRead}
 use Rattle.modelline.specs.declared.Word.{Word}
 use Rattle.modelline.specs.declared.Word.TheVariants.{Size, Start, Final, Event, Exit, Direct, Call, Move, Unknown}
-use Rattle.modelline.specs.declared.Line.{Line}
-use Rattle.modelline.specs.declared.LineRead.{LineRead}
 
 -- "size"
 abbrev pub size : List ℕ
@@ -41,40 +40,23 @@ call = 99 ∷ 97 ∷ 108 ∷ 108 ∷ []
 abbrev pub move : List ℕ
 move = 109 ∷ 111 ∷ 118 ∷ 101 ∷ []
 
--- a line of this word with these numbers; one that begins with no word of a model text has none
-abbrev pub said : Word → Numbers → Line
-said w n = record { word = w; numbers = n }
+-- each word and its bytes
+abbrev pub words : List ((List ℕ) × Word)
+words = (size, Size) ∷ (start, Start) ∷ (final, Final) ∷ (event, Event) ∷ (exit, Exit) ∷ (direct, Direct) ∷ (call, Call) ∷ (move, Move) ∷ []
 
-abbrev pub unknown : Line
-unknown = said Unknown wrong
+-- no tab and no line feed stands in one
+pub plain : IsTrue (any.are_plain words)
+unfolding without
+plain = refl
 
 -- a line by its first field and the numbers of the others
-unfoldable pub line_by : List ℕ → Numbers → Line
-line_by w n =
-    pick (same_bytes w size) (said Size n)
-    (pick (same_bytes w start) (said Start n)
-    (pick (same_bytes w final) (said Final n)
-    (pick (same_bytes w event) (said Event n)
-    (pick (same_bytes w exit) (said Exit n)
-    (pick (same_bytes w direct) (said Direct n)
-    (pick (same_bytes w call) (said Call n)
-    (pick (same_bytes w move) (said Move n)
-    unknown)))))))
+unfoldable pub line_by : List ℕ → Numbers → Line Word
+line_by f n = any.line_by words Unknown f n
 
 -- a line by its fields, which tabs part: no word stands alone
-unfoldable pub line_of : List (List ℕ) → Line
-line_of [] = unknown
-line_of (w ∷ []) = unknown
-line_of (w ∷ f ∷ fs) = line_by w (numbers_of (f ∷ fs))
-
--- a line and where it ends
-abbrev pub ended : Line → ℕ → LineRead
-ended l e = record { line = l; end = e }
+unfoldable pub line_of : List (List ℕ) → Line Word
+line_of fs = any.line_of words Unknown fs
 
 -- the line that a text begins with, up to its line feed
-abbrev pub line_at : List ℕ → LineRead
-line_at s = ended (line_of (split 9 (first 10 s))) (length (first 10 s))
-
--- with a word, and the numbers from b on
-abbrev pub line_from : List ℕ → Word → ℕ → LineRead
-line_from s w b = ended (said w (from s b).numbers) (from s b).end
+abbrev pub line_at : List ℕ → LineRead Word
+line_at s = any.line_at words Unknown s

@@ -14,7 +14,7 @@ use borrow.Author.Tests.{lt-ltb, le-ltb, ne_eqb, ltb-true, ltb-false}
 use Rattle.text.specs.Split.{pick, split, joined, without, Each}
 use Rattle.numbers.specs.Number.{spelled, number_of, most, wrong, push, numbers_from, numbers_of}
 use Rattle.numbers.specs.Digits.{decimal_in, decimal, written, digits_of}
-use Rattle.numbers.specs.declared.Number.TheVariants.{Is, Bad}
+use Rattle.std.specs.Prelude.{Some, None}
 use Rattle.numbers.specs.declared.Numbers.{Numbers}
 use Rattle.text.proofs.Split.{without_append, split_joined}
 use Rattle.numbers.proofs.Decimals.{decimal_one, decimal_more}
@@ -39,30 +39,30 @@ by_digits P one more (suc k) n h =
     (below_ten n)
 
 -- reading goes on where it stands
-spelled_on : (v w : ℕ) (s t : List ℕ) → spelled v s ≡ Is w → spelled v (s ++ t) ≡ spelled w t
+spelled_on : (v w : ℕ) (s t : List ℕ) → spelled v s ≡ Some w → spelled v (s ++ t) ≡ spelled w t
 unfolding spelled
 spelled_on v w [] t e = ap (λ x. spelled x t) (cc)
 spelled_on v w (b ∷ s) t e = go (spelled_on (v * 10 + (b - 48)) w s t) (ltb b 48) (ltb 57 b) e
   where
-    go : (spelled (v * 10 + (b - 48)) s ≡ Is w → spelled (v * 10 + (b - 48)) (s ++ t) ≡ spelled w t) → (x y : Bool)
-        → pick x Bad (pick y Bad (spelled (v * 10 + (b - 48)) s)) ≡ Is w → pick x Bad (pick y Bad (spelled (v * 10 + (b - 48)) (s ++ t))) ≡ spelled w t
+    go : (spelled (v * 10 + (b - 48)) s ≡ Some w → spelled (v * 10 + (b - 48)) (s ++ t) ≡ spelled w t) → (x y : Bool)
+        → pick x None (pick y None (spelled (v * 10 + (b - 48)) s)) ≡ Some w → pick x None (pick y None (spelled (v * 10 + (b - 48)) (s ++ t))) ≡ spelled w t
     go on true y e = cc
     go on false true e = cc
     go on false false e = on e
 
 -- one digit read after others
-spelled_digit : (v d : ℕ) → d < 10 → spelled v ((48 + d) ∷ []) ≡ Is (v * 10 + d)
+spelled_digit : (v d : ℕ) → d < 10 → spelled v ((48 + d) ∷ []) ≡ Some (v * 10 + d)
 unfolding spelled
 spelled_digit v d h =
     let e : 48 + d - 48 ≡ d = omega arith in
     rw (le-ltb (48 + d) 48 (omega arith), le-ltb 57 (48 + d) (omega arith), e)
 
 -- the digits of a number are read as that number
-decimal_spelled : (n : ℕ) → n < 100000 → spelled 0 (decimal n) ≡ Is n
+decimal_spelled : (n : ℕ) → n < 100000 → spelled 0 (decimal n) ≡ Some n
 decimal_spelled n h =
-    by_digits (λ s m. spelled 0 s ≡ Is m)
-    (λ m l. spelled_digit 0 m l ∙ ap Is (omega arith))
-    (λ s m l e. spelled_on 0 (m / 10) s _ e ∙ spelled_digit (m / 10) (m % 10) (omega arith) ∙ ap Is (omega arith))
+    by_digits (λ s m. spelled 0 s ≡ Some m)
+    (λ m l. spelled_digit 0 m l ∙ ap Some (omega arith))
+    (λ s m l e. spelled_on 0 (m / 10) s _ e ∙ spelled_digit (m / 10) (m % 10) (omega arith) ∙ ap Some (omega arith))
     4 n h
 
 -- and the first of them is no 0 but that of 0 itself
@@ -104,7 +104,7 @@ number_one : (b : ℕ) → number_of (b ∷ []) ≡ spelled 0 (b ∷ [])
 unfolding number_of
 number_one b = refl
 
-pub number_back : (n : ℕ) → n < 100000 → number_of (decimal n) ≡ Is n
+pub number_back : (n : ℕ) → n < 100000 → number_of (decimal n) ≡ Some n
 number_back n h =
     ⊎_elim
     (λ l. ap number_of (decimal_one 4 n l) ∙ number_one (48 + n) ∙ ap (spelled 0) (sym (decimal_one 4 n l)))

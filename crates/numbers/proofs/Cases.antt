@@ -4,7 +4,7 @@ use mathlib.Core.List.{[], ◌∷◌, map}
 use Rattle.text.specs.Split.{first, later, split}
 use Rattle.numbers.specs.Number.{spelled, number_of}
 use Rattle.numbers.specs.Digits.{decimal_in, decimal}
-use Rattle.numbers.specs.declared.Number.TheVariants.{Is, Bad}
+use Rattle.std.specs.Prelude.{Some, None}
 
 -- "0" "7" "65536" "99999" "" "00" "01" "+1" "1:" "100000"
 pub number_cases :
@@ -20,7 +20,7 @@ pub number_cases :
     ∷ (49 ∷ 58 ∷ [])
     ∷ (49 ∷ 48 ∷ 48 ∷ 48 ∷ 48 ∷ 48 ∷ [])
     ∷ [])
-    ≡ Is 0 ∷ Is 7 ∷ Is 65536 ∷ Is 99999 ∷ Bad ∷ Bad ∷ Bad ∷ Bad ∷ Bad ∷ Bad ∷ []
+    ≡ Some 0 ∷ Some 7 ∷ Some 65536 ∷ Some 99999 ∷ None ∷ None ∷ None ∷ None ∷ None ∷ None ∷ []
 unfolding spelled number_of
 number_cases = refl
 

@@ -9,8 +9,7 @@ use lib.ListN.{length, set, length-drop}
 use borrow.Author.Tests.{eq-eqb, ne_eqb, eqb-true, lt-ltb, le-ltb}
 use Rattle.text.specs.Split.{pick, first, later, split}
 use Rattle.numbers.specs.Number.{number_of, most, wrong, push, numbers_from, numbers_of}
-use Rattle.numbers.specs.declared.Number.{Number}
-use Rattle.numbers.specs.declared.Number.TheVariants.{Is, Bad}
+use Rattle.std.specs.Prelude.{Option, Some, None}
 use Rattle.numbers.specs.declared.Numbers.{Numbers}
 use Rattle.numbers.specs.declared.FieldRead.{FieldRead}
 use Rattle.numbers.specs.declared.FieldsRead.{FieldsRead}
@@ -21,9 +20,9 @@ use Rattle.text.proofs.Stops.{line_end, line_on, no_fields, fields_after, end_af
 use Rattle.numbers.proofs.Field.{field_is, field_bad}
 
 -- a count of 0 is nothing but wrong
-pub push_none : (n : Numbers) (v : Number) → (push n v).count ≡ 0 → push n v ≡ wrong
-push_none n Bad e = refl
-push_none n (Is v) e = go (ltb n.count most) e
+pub push_none : (n : Numbers) (v : Option ℕ) → (push n v).count ≡ 0 → push n v ≡ wrong
+push_none n None e = refl
+push_none n (Some v) e = go (ltb n.count most) e
   where
     go : (t : Bool) → (pick t (record { count = n.count + 1; at = set n.at n.count v }) wrong).count ≡ 0
         → pick t (record { count = n.count + 1; at = set n.at n.count v }) wrong ≡ wrong
@@ -61,47 +60,47 @@ first_turn s = record { left = refl; ends = omega arith; fits = omega arith }
 abbrev pub with : Numbers → ℕ → Numbers
 with n v = record { count = n.count + 1; at = set n.at n.count v }
 
-module _ {s : List ℕ} {n : Numbers} {l : List ℕ} (i : Turn s n l) {f : FieldRead} (p : f ≡ field_of l) where
+module _ {s : List ℕ} {n : Numbers} {l : List ℕ} (i : Turn s n l) where
   -- the line's fields are wrong
   wrong_line : push n (number_of (field l)) ≡ wrong → {r : FieldsRead} → r ≡ fields_by wrong (length (first 10 s)) → r ≡ fields_of s
   wrong_line e q =
       q ∙ ap (λ m. fields_by m (length (first 10 s))) (sym e ∙ sym (from_stop n (field l) (later 9 (first 10 l)) (ap (λ m. m.count) e)) ∙ i.left)
 
-  pub bad_turn : f.number ≡ Bad → {r : FieldsRead} → r ≡ fields_by wrong (length (first 10 s)) → r ≡ fields_of s
-  bad_turn b = wrong_line (ap (push n) (field_bad l p b))
+  pub bad_turn : None ≡ field_of l → {r : FieldsRead} → r ≡ fields_by wrong (length (first 10 s)) → r ≡ fields_of s
+  bad_turn p = wrong_line (ap (push n) (field_bad l p))
 
-  module _ {v : ℕ} (q : f.number ≡ Is v) where
+  module _ {f : FieldRead} (p : Some f ≡ field_of l) where
     pub full_turn : most ≤ n.count → {r : FieldsRead} → r ≡ fields_by wrong (length (first 10 s)) → r ≡ fields_of s
-    full_turn h = wrong_line (ap (push n) (field_is l p q).number ∙ rw (le-ltb n.count most h))
+    full_turn h = wrong_line (ap (push n) (field_is l p).number ∙ rw (le-ltb n.count most h))
 
     module _ (h : n.count < most) where
-      pushed : push n (number_of (field l)) ≡ with n v
-      pushed = ap (push n) (field_is l p q).number ∙ rw (lt-ltb n.count most h)
+      pushed : push n (number_of (field l)) ≡ with n f.number
+      pushed = ap (push n) (field_is l p).number ∙ rw (lt-ltb n.count most h)
 
-      pub last_turn : f.stop ≡ 10 → fields_by (with n v) (length s - length l + f.end) ≡ fields_of s
+      pub last_turn : f.stop ≡ 10 → fields_by (with n f.number) (length s - length l + f.end) ≡ fields_of s
       last_turn g =
-          let e : length (first 10 l) ≡ f.end = line_end 9 10 l (field_is l p q).end (λ x. let z : ◌≡◌ {A = ℕ} 9 10 = x in omega arith) (sym (field_is l p q).stop ∙ g) in
+          let e : length (first 10 l) ≡ f.end = line_end 9 10 l (field_is l p).end (λ x. let z : ◌≡◌ {A = ℕ} 9 10 = x in omega arith) (sym (field_is l p).stop ∙ g) in
           ap (λ m. fields_by m (length s - length l + f.end))
-          (sym pushed ∙ sym (from_last n (field l)) ∙ ap (λ fs. numbers_from n (field l ∷ fs)) (sym (no_fields 9 10 l (field_is l p q).end e)) ∙ i.left)
+          (sym pushed ∙ sym (from_last n (field l)) ∙ ap (λ fs. numbers_from n (field l ∷ fs)) (sym (no_fields 9 10 l (field_is l p).end e)) ∙ i.left)
           ∙ ap (fields_by (numbers_of (split 9 (first 10 s)))) (ap (λ x. length s - length l + x) (sym e) ∙ i.ends)
 
       module _ (g : f.stop ≡ 10 → ⊥) where
         goes : f.end < length (first 10 l)
-        goes = line_on 9 10 l (field_is l p q).end (λ e. g ((field_is l p q).stop ∙ e))
+        goes = line_on 9 10 l (field_is l p).end (λ e. g ((field_is l p).stop ∙ e))
 
         pub inside : f.end < length l
-        inside = place_inside 9 10 l (field_is l p q).end goes
+        inside = place_inside 9 10 l (field_is l p).end goes
 
         shorter : length (after f.end l) ≡ length l - (f.end + 1)
         shorter = ap length (tail_part l (f.end + 1)) ∙ length-drop (f.end + 1) l
 
-        pub next_turn : Turn s (with n v) (after f.end l)
+        pub next_turn : Turn s (with n f.number) (after f.end l)
         next_turn = record {
           left =
-              ap (numbers_from (with n v)) (sym (fields_after 9 10 l (field_is l p q).end goes))
+              ap (numbers_from (with n f.number)) (sym (fields_after 9 10 l (field_is l p).end goes))
               ∙ ap (λ m. numbers_from m (later 9 (first 10 l))) (sym pushed)
               ∙ sym (from_next n (field l) (later 9 (first 10 l)) (λ e. let z = sym (ap (λ m. m.count) pushed) ∙ e in omega arith))
               ∙ i.left;
-          ends = let x = i.ends in let y = i.fits in omega (arith, inside, shorter, end_after 9 10 l (field_is l p q).end goes);
+          ends = let x = i.ends in let y = i.fits in omega (arith, inside, shorter, end_after 9 10 l (field_is l p).end goes);
           fits = let x = i.fits in omega (arith, shorter);
         }

@@ -1,8 +1,6 @@
 -- The field that a text begins with, and the fields of the line that it begins with: they end at a line feed. Assumes nothing.
-use Rattle.std.specs.Prelude.{List, ◌≡◌, ℕ, ◌+◌, ◌≤◌, ◌<◌, length, get_or, drop}
+use Rattle.std.specs.Prelude.{List, ◌≡◌, ℕ, ◌+◌, ◌≤◌, ◌<◌, length, get_or, drop, Option, Some, None}
 use Rattle.text.specs.Split.{first, split}
-use Rattle.numbers.specs.declared.Number.{Number}
-use Rattle.numbers.specs.declared.Number.TheVariants.{Is, Bad}
 use Rattle.numbers.specs.declared.Numbers.{Numbers}
 use Rattle.numbers.specs.declared.FieldRead.{FieldRead}
 use Rattle.numbers.specs.declared.FieldsRead.{FieldsRead}
@@ -21,12 +19,12 @@ pub record Begins (s : List ℕ) (v i b : ℕ) : Type 0 where
   pub next : b ≡ get_or s i 10
   pub stops : i ≤ 5 → i < length s → 48 ≤ get_or s i 0 → get_or s i 0 ≤ 57 → ⊥
 
--- a field's number, where it ends and the byte there, zeros where it is no number; past the end there stands a line feed
-abbrev pub field_by : Number → (end stop : ℕ) → FieldRead
-field_by Bad e b = record { number = Bad; end = 0; stop = 0 }
-field_by (Is v) e b = record { number = Is v; end = e; stop = b }
+-- a field's number, where it ends and the byte there, nothing where it is no number; past the end there stands a line feed
+abbrev pub field_by : Option ℕ → (end stop : ℕ) → Option FieldRead
+field_by None e b = None
+field_by (Some v) e b = Some (record { number = v; end = e; stop = b })
 
-abbrev pub field_of : List ℕ → FieldRead
+abbrev pub field_of : List ℕ → Option FieldRead
 field_of s = field_by (number_of (field s)) (length (field s)) (get_or s (length (field s)) 10)
 
 -- the numbers of a line and where it ends

@@ -1,22 +1,20 @@
 -- The number that a field is, and the numbers of a run of fields. Assumes nothing.
-use Rattle.std.specs.Prelude.{Bool, true, false, List, [], ◌∷◌, ℕ, ◌+◌, ◌-◌, ◌*◌, eqb, ltb, length, get_or, set, replicate}
+use Rattle.std.specs.Prelude.{Bool, true, false, List, [], ◌∷◌, ℕ, ◌+◌, ◌-◌, ◌*◌, eqb, ltb, length, get_or, set, replicate, Option, Some, None}
 use Rattle.text.specs.Split.{pick}
-use Rattle.numbers.specs.declared.Number.{Number}
-use Rattle.numbers.specs.declared.Number.TheVariants.{Is, Bad}
 use Rattle.numbers.specs.declared.Numbers.{Numbers}
 
--- the number that decimal digits write after those that made n; any other byte is Bad
-unfoldable pub spelled : ℕ → List ℕ → Number
-spelled n [] = Is n
-spelled n (b ∷ bs) = pick (ltb b 48) Bad (pick (ltb 57 b) Bad (spelled (n * 10 + (b - 48)) bs))
+-- the number that decimal digits write after those that made n; any other byte makes it none
+unfoldable pub spelled : ℕ → List ℕ → Option ℕ
+spelled n [] = Some n
+spelled n (b ∷ bs) = pick (ltb b 48) None (pick (ltb 57 b) None (spelled (n * 10 + (b - 48)) bs))
 
 -- one to five digits, and no leading zero but in 0 itself
-unfoldable pub number_of : List ℕ → Number
+unfoldable pub number_of : List ℕ → Option ℕ
 number_of s =
-    pick (eqb (length s) 0) Bad
-    (pick (ltb 5 (length s)) Bad
+    pick (eqb (length s) 0) None
+    (pick (ltb 5 (length s)) None
     (pick (eqb (length s) 1) (spelled 0 s)
-    (pick (eqb (get_or s 0 0) 48) Bad (spelled 0 s))))
+    (pick (eqb (get_or s 0 0) 48) None (spelled 0 s))))
 
 -- whether so many digits write a number, by the first of them
 abbrev pub written : (count first : ℕ) → Bool
@@ -31,9 +29,9 @@ abbrev pub wrong : Numbers
 wrong = record { count = 0; at = replicate most 0 }
 
 -- the numbers with one more behind them
-abbrev pub push : Numbers → Number → Numbers
-push n Bad = wrong
-push n (Is v) = pick (ltb n.count most) (record { count = n.count + 1; at = set n.at n.count v }) wrong
+abbrev pub push : Numbers → Option ℕ → Numbers
+push n None = wrong
+push n (Some v) = pick (ltb n.count most) (record { count = n.count + 1; at = set n.at n.count v }) wrong
 
 -- the numbers n, then those of the fields; the first field that is no number, or has no room, makes it wrong
 unfoldable pub numbers_from : Numbers → List (List ℕ) → Numbers

@@ -2,27 +2,19 @@
 // digits and no leading zero. Nothing here knows what the numbers mean.
 #![tactic(auto)]
 
-ghost use Rattle.std.specs.Prelude.{◌≡◌, ℕ, ◌+◌, ◌<◌, ◌≤◌, length, get_or};
+ghost use Rattle.std.specs.Prelude.{◌≡◌, ◌+◌, ◌<◌, ◌≤◌, length, get_or};
 ghost use Rattle.text.specs.Split.{first};
 ghost use Rattle.numbers.specs.Number.{written, wrong};
-ghost use Rattle.numbers.specs.Field.{field, Begins, field_by, field_of, fields_by, fields_of};
-ghost use Rattle.numbers.specs.declared.Number.TheVariants.{Bad};
+ghost use Rattle.numbers.specs.Field.{Begins, field_of, fields_by, fields_of};
 ghost use Rattle.numbers.specs.Digits.{front, digits_of};
 
 // The most numbers that a run of fields may have.
 pub const MOST: usize = 4;
 
-// The number that a field is.
-#[derive(Clone, Copy)]
-pub enum Number {
-    Is(u32),
-    Bad,
-}
-
-// The number of the field that a text begins with, where the field ends, and the byte there: zeros where it is no number.
+// The number of the field that a text begins with, where the field ends, and the byte there.
 #[derive(Clone, Copy)]
 struct FieldRead {
-    number: Number,
+    number: u32,
     end: usize,
     stop: u8,
 }
@@ -61,35 +53,17 @@ fn read_digits(s: &[u8]) -> Run
     ensures { Begins s.now result.value result.count result.stop }
 {
     let mut value: u32 = 0;
-    let mut count: usize = 0;
-    while count < s.len() {
-        let stop = s[count];
-        if 5 < count {
+    for (count, b) in s.iter().enumerate() {
+        let stop = *b;
+        if 5 < count || !stop.is_ascii_digit() {
             return Run { count, value, stop };
         }
-        if stop < b'0' {
-            return Run { count, value, stop };
-        }
-        if b'9' < stop {
-            return Run { count, value, stop };
-        }
-        value = value * 10 + (stop as u32 - b'0' as u32);
-        count += 1;
+        value = value * 10 + u32::from(stop - b'0');
     }
     Run {
-        count,
+        count: s.len(),
         value,
         stop: b'\n',
-    }
-}
-
-fn no_field() -> FieldRead
-    ensures { result ≡ field_by Bad 0 0 }
-{
-    FieldRead {
-        number: Number::Bad,
-        end: 0,
-        stop: 0,
     }
 }
 
@@ -98,47 +72,30 @@ fn well_written(s: &[u8], digits: usize) -> bool
     requires { digits ≤ length s.now }
     ensures { result ≡ written digits (get_or s.now 0 0) }
 {
-    if digits == 1 {
-        return true;
+    match digits {
+        1 => true,
+        2..=5 => s[0] != b'0',
+        _ => false,
     }
-    if digits == 0 {
-        return false;
-    }
-    if 5 < digits {
-        return false;
-    }
-    if s[0] == b'0' {
-        return false;
-    }
-    true
 }
 
-// The number of the field that s begins with.
-fn read_field(s: &[u8]) -> FieldRead
+// The number of the field that s begins with; none where it is no number.
+fn read_field(s: &[u8]) -> Option<FieldRead>
     ensures { result ≡ field_of s.now }
 {
     let run = read_digits(s);
-    let end = run.count;
-    if !well_written(s, end) {
-        return no_field();
-    }
-    let number = Number::Is(run.value);
     let stop = run.stop;
-    if stop == b'\n' {
-        return FieldRead {
-            number,
-            end,
-            stop: b'\n',
-        };
+    if stop != b'\n' && stop != b'\t' {
+        return None;
     }
-    if stop != b'\t' {
-        return no_field();
+    if !well_written(s, run.count) {
+        return None;
     }
-    FieldRead {
-        number,
-        end,
-        stop: b'\t',
-    }
+    Some(FieldRead {
+        number: run.value,
+        end: run.count,
+        stop,
+    })
 }
 
 // A line whose fields are wrong.
@@ -163,25 +120,22 @@ pub fn read_fields(s: &[u8]) -> FieldsRead
     let mut at = [0u32; MOST];
     let mut rest = s;
     loop {
-        let f = read_field(rest);
-        let number = f.number;
-        let Number::Is(v) = number else {
+        let Some(f) = read_field(rest) else {
             return wrong_fields(s);
         };
         if MOST <= count {
             return wrong_fields(s);
         }
-        at[count] = v;
+        at[count] = f.number;
         count += 1;
-        let e = f.end;
         if f.stop == b'\n' {
             let numbers = Numbers { count, at };
             return FieldsRead {
                 numbers,
-                end: s.len() - rest.len() + e,
+                end: s.len() - rest.len() + f.end,
             };
         }
-        let b = e + 1;
+        let b = f.end + 1;
         rest = &rest[b..];
     }
 }
@@ -209,7 +163,7 @@ pub fn write_number(n: u16) -> Digits
     let mut left = n;
     while 10 <= left {
         d = put_first(b'0' + (left % 10) as u8, d);
-        left = left / 10;
+        left /= 10;
     }
     put_first(b'0' + left as u8, d)
 }

@@ -3,13 +3,9 @@
 
 ghost use Rattle.std.specs.Prelude.{◌≡◌, take};
 
-// The first k bytes, or all where there are fewer.
+// The first k bytes, or all where there are fewer: no method of a slice does both, and `get(..k)` has nothing for fewer.
 pub fn front(out: &[u8], k: usize) -> &[u8]
     ensures { result.now ≡ take k out.now }
 {
-    let room = out.len();
-    if room < k {
-        return out;
-    }
-    &out[..k]
+    &out[..k.min(out.len())]
 }

@@ -7,17 +7,14 @@ ghost use Rattle.product.specs.Lists.{over};
 ghost use Rattle.print.specs.Bytes.{field_bytes, line_bytes, named_bytes};
 ghost use Rattle.text.specs.Put.{place_in, Put};
 
-// The place in n bytes, or the one that says that something was cut.
+// The place in n bytes, or the one that says that something was cut. Named, since each part of a line begins with it.
 pub fn place(n: usize, at: usize) -> usize
     ensures { result ≡ place_in n at }
 {
-    if n < at {
-        return n + 1;
-    }
-    at
+    at.min(n.saturating_add(1))
 }
 
-// Puts one byte.
+// Puts one byte. The answer is a place and no `Option`: what is put behind a cut is dropped by its place, and no caller tests for a cut.
 pub fn put(out: &mut [u8], at: usize, b: u8) -> usize
     ensures { Put out.old out.new at result (b ∷ []) }
 {
@@ -28,15 +25,14 @@ pub fn put(out: &mut [u8], at: usize, b: u8) -> usize
     at + 1
 }
 
-// Puts a word or the digits of a number.
+// Puts a word or the digits of a number. It and `put_fields` have a loop each: one function that is given how to put an item would be no plainer,
+// since its contract would speak of what the closure promises of each item and of the memory between them.
 pub fn put_all(out: &mut [u8], at: usize, s: &[u8]) -> usize
     ensures { Put out.old out.new at result s.now }
 {
     let mut next = place(out.len(), at);
-    let mut i: usize = 0;
-    while i < s.len() {
-        next = put(out, next, s[i]);
-        i += 1;
+    for b in s {
+        next = put(out, next, *b);
     }
     next
 }
@@ -48,8 +44,7 @@ pub fn put_field(out: &mut [u8], at: usize, n: u16) -> usize
     let next = put(out, at, b'\t');
     let d = numbers::write_number(n);
     let digits = d.at;
-    let count = d.count;
-    put_all(out, next, &digits[..count])
+    put_all(out, next, &digits[..d.count])
 }
 
 // Puts a tab and a number for each of them.
@@ -57,10 +52,8 @@ pub fn put_fields(out: &mut [u8], at: usize, numbers: &[u16]) -> usize
     ensures { Put out.old out.new at result (over numbers.now field_bytes) }
 {
     let mut next = place(out.len(), at);
-    let mut i: usize = 0;
-    while i < numbers.len() {
-        next = put_field(out, next, numbers[i]);
-        i += 1;
+    for n in numbers {
+        next = put_field(out, next, *n);
     }
     next
 }

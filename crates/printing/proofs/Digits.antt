@@ -1,10 +1,14 @@
--- The digits of a number: how many there are, and how they are put from the last to the first. Assumes nothing.
+-- A line that has room, as it is put: its word, and the digits of its numbers, from the last to the first. Assumes nothing.
 use mathlib.Core.Path.{◌≡◌, refl, ap, sym, ◌∙◌}
 use mathlib.Core.List.{List, [], ◌∷◌, ◌++◌, append-nil}
+use Rattle.std.proofs.Common.{append_assoc}
+use Rattle.std.proofs.lemmas.List.Edits.{sets-eq, paste_all}
+use Rattle.std.proofs.lemmas.Slice.{put_mid-paste}
+use borrow.Rule.Slice.PartMut.{put_mid}
 use Prim.Native.Nat.{ℕ, zero, suc, ◌+◌, ◌-◌, ◌*◌, ◌/◌, ◌%◌, ◌^◌, ◌<◌, ◌≤◌}
 use native.Mathlib.Nat.{pow-suc}
 use native.Mathlib.Omega.{arith}
-use lib.ListN.{length, get_or, set, length-append, length-set}
+use lib.ListN.{length, get_or, set, take, drop, length-append, length-set}
 use lib.Seq.{sets, set_comm, append_snoc, length-sets}
 use Rattle.numbers.specs.Digits.{decimal_in, decimal}
 use Rattle.numbers.proofs.Decimals.{decimal_one, decimal_more}
@@ -14,6 +18,17 @@ use Rattle.product.specs.Lists.{over}
 use Rattle.text.specs.Put.{Put}
 use Rattle.text.proofs.Puts.{then_put, as_put, one_put, put_length}
 use Rattle.printing.proofs.Bytes.{fields_short}
+
+-- a word copied into the part of the array that is as long
+pub word_laid : (o s t : List ℕ) (at : ℕ) → t ≡ s → at + length s ≤ length o → Put o (put_mid at (at + length s - at) o t) at (at + length s) s
+word_laid o s t at e h = record {
+  place = omega arith;
+  cells =
+      put_mid-paste at (at + length s - at) o t s (length s) e (omega arith) refl
+      ∙ paste_all o at s (length s) refl
+      ∙ sym (append_assoc (take at o) s (drop (at + length s) o))
+      ∙ sym (sets-eq s o at h);
+}
 
 module _ (k n : ℕ) where
   one_more : n < 10 → length (decimal_in (suc k) n) ≡ 1

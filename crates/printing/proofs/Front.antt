@@ -1,10 +1,11 @@
 -- A listing looks at the cells of the table alone. Assumes nothing.
 use mathlib.Core.List.{List, [], ◌∷◌, ◌++◌}
-use mathlib.Core.Path.{◌≡◌, ap}
-use Prim.Native.Nat.{ℕ, ◌*◌, ◌<◌}
+use mathlib.Core.Path.{◌≡◌, ap, ap₂, sym, ◌∙◌}
+use Prim.Native.Nat.{ℕ, ◌*◌, ◌<◌, ◌≤◌}
 use native.Mathlib.Omega.{arith}
 use lib.Dec.{eqb}
-use lib.ListN.{length, get_or, get_or-append}
+use lib.ListN.{length, get_or, take, drop, get_or-append}
+use Rattle.std.proofs.lemmas.List.{take-append-drop, length-take-le}
 use Rattle.text.specs.Split.{pick}
 use Rattle.product.specs.Table.{absent}
 use Rattle.product.proofs.Lists.{over_alike}
@@ -33,3 +34,10 @@ pub listing_front : (G Q rounds : ℕ) (hs hs' ts ts' : List ℕ) → length hs 
 unfolding listing_bytes header_bytes
 listing_front G Q rounds hs hs' ts ts' h t =
     rw (present_front hs hs' (Q * G) h, present_front ts ts' (Q * G * Q) t, cells_front hs hs' (Q * G) h, cells_front ts ts' (Q * G * Q) t)
+
+-- so of arrays that are cut to the table the listing is the same
+pub listing_cut : (G Q rounds : ℕ) (hs ts : List ℕ) {h t : ℕ} → h ≡ Q * G → t ≡ Q * G * Q → h ≤ length hs → t ≤ length ts
+    → listing_bytes G Q rounds (take h hs) (take t ts) ≡ listing_bytes G Q rounds hs ts
+listing_cut G Q rounds hs ts {h} {t} e f k l =
+    sym (listing_front G Q rounds (take h hs) (drop h hs) (take t ts) (drop t ts) (length-take-le h hs k ∙ e) (length-take-le t ts l ∙ f))
+    ∙ ap₂ (listing_bytes G Q rounds) (take-append-drop h hs) (take-append-drop t ts)

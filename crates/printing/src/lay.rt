@@ -9,14 +9,9 @@ fn word(out: &mut [u8], at: usize, s: &[u8]) -> usize
     requires { at + length s.now ≤ length out.old }
     ensures { Put out.old out.new at result s.now }
 {
-    let mut next = at;
-    let mut i: usize = 0;
-    while i < s.len() {
-        out[next] = s[i];
-        next += 1;
-        i += 1;
-    }
-    next
+    let end = at + s.len();
+    out[at..end].copy_from_slice(s);
+    end
 }
 
 // How many digits a number has.
@@ -38,7 +33,7 @@ fn digit_count(n: u16) -> usize
     5
 }
 
-// The digits of a number, the last first.
+// The digits of a number, the last first: what is left of the number drives the loop, and no index does.
 fn digits(out: &mut [u8], at: usize, n: u16) -> usize
     requires { at + 5 ≤ length out.old }
     ensures { Put out.old out.new at result (decimal n) }
@@ -74,10 +69,8 @@ fn fields(out: &mut [u8], at: usize, numbers: &[u16]) -> usize
     ensures { Put out.old out.new at result (over numbers.now field_bytes) }
 {
     let mut next = at;
-    let mut i: usize = 0;
-    while i < numbers.len() {
-        next = field(out, next, numbers[i]);
-        i += 1;
+    for n in numbers {
+        next = field(out, next, *n);
     }
     next
 }

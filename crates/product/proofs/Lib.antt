@@ -1,4 +1,5 @@
 pub mod Lists
+pub mod Ranges
 pub mod Answer
 pub mod Ways
 pub mod Closed

@@ -75,15 +75,12 @@ row_place i c = div-add-mod' i c
 row_below : (i c n : ℕ) → 1 ≤ c → i < n * c → i / c < n
 row_below i c n h l = (div-lt_iff_lt-mul h).1 l
 
-module _ (z : Size) (some_symbol : 1 ≤ z.symbols) (some_state : 1 ≤ z.states) (s : State) (begun : s.begun ≡ 1) (i rank : ℕ) (small : rank ≤ largest) where
+module _ (z : Size) (some_symbol : 1 ≤ z.symbols) (some_state : 1 ≤ z.states) (s : State) (begun : s.begun ≡ true) (i rank : ℕ) (small : rank ≤ largest) where
   abbrev G : ℕ
   G = z.symbols
 
   abbrev Q : ℕ
   Q = z.states
-
-  not_early : s.begun ≡ 0 → ⊥
-  not_early e = omega arith
 
   head_line : i < Q * G → get_or s.headcells i 0 ≡ absent → head_step z s (numbers (i / G ∷ i % G ∷ rank ∷ [])) ≡ goes (holding Head s (s.heads + 1) (set s.headcells i rank))
   head_line l a =
@@ -91,7 +88,7 @@ module _ (z : Size) (some_symbol : 1 ≤ z.symbols) (some_state : 1 ≤ z.states
       let g : i % G < G = mod-lt i some_symbol in
       let b = head_inside q g in
       let held : head_in G Q s.headcells (i / G) (i % G) ≡ absent = rw (head_inside q g, row_place i G) a in
-      sym (head_taken z s (numbers (i / G ∷ i % G ∷ rank ∷ [])) (fault_none s.begun _ _ rank not_early held b small) refl
+      sym (head_taken z s (numbers (i / G ∷ i % G ∷ rank ∷ [])) (fault_none s.begun _ _ rank begun held b small) refl
       (let e : set s.headcells i rank ≡ put_head G Q s.headcells (i / G) (i % G) rank = rw (head_inside q g, row_place i G) in e))
 
   triple_line : i < Q * G * Q → get_or s.triplecells i 0 ≡ absent
@@ -102,7 +99,7 @@ module _ (z : Size) (some_symbol : 1 ≤ z.symbols) (some_state : 1 ≤ z.states
       let e : i % Q < Q = mod-lt i some_state in
       let b = triple_inside q g e in
       let held : triple_in G Q s.triplecells (i / Q / G) (i / Q % G) (i % Q) ≡ absent = rw (triple_inside q g e, row_place (i / Q) G, row_place i Q) a in
-      sym (triple_taken z s (numbers (i / Q / G ∷ i / Q % G ∷ i % Q ∷ rank ∷ [])) (fault_none s.begun _ _ rank not_early held b small) refl
+      sym (triple_taken z s (numbers (i / Q / G ∷ i / Q % G ∷ i % Q ∷ rank ∷ [])) (fault_none s.begun _ _ rank begun held b small) refl
       (let x : set s.triplecells i rank ≡ put_triple G Q s.triplecells (i / Q / G) (i / Q % G) (i % Q) rank = rw (triple_inside q g e, row_place (i / Q) G, row_place i Q) in x))
 
   -- the line of one cell that is not held yet
@@ -140,7 +137,7 @@ count_held : (kind : Kind) (s : State) (n : ℕ) (l : List ℕ) → counted kind
 count_held Head s n l = refl
 count_held Triple s n l = refl
 
-begun_held : (kind : Kind) (s : State) (n : ℕ) (l : List ℕ) → s.begun ≡ 1 → (holding kind s n l).begun ≡ 1
+begun_held : (kind : Kind) (s : State) (n : ℕ) (l : List ℕ) → s.begun ≡ true → (holding kind s n l).begun ≡ true
 begun_held Head s n l e = e
 begun_held Triple s n l e = e
 
@@ -148,7 +145,7 @@ holding_self : (kind : Kind) (s : State) → holding kind s (counted kind s) (ce
 holding_self Head s = refl
 holding_self Triple s = refl
 
-module _ (z : Size) (some_symbol : 1 ≤ z.symbols) (some_state : 1 ≤ z.states) (kind : Kind) (s : State) (begun : s.begun ≡ 1) (cells : List ℕ)
+module _ (z : Size) (some_symbol : 1 ≤ z.symbols) (some_state : 1 ≤ z.states) (kind : Kind) (s : State) (begun : s.begun ≡ true) (cells : List ℕ)
     (few : many kind z.symbols z.states ≤ 2048) (blank : (i : ℕ) → i < many kind z.symbols z.states → get_or (cells_in kind s) i 0 ≡ absent)
     (small : (i : ℕ) → get_or cells i 0 ≤ absent) where
   one_cell : (k : ℕ) → k < many kind z.symbols z.states

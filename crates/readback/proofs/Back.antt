@@ -14,7 +14,8 @@ use Rattle.text.proofs.Split.{split_append, without_append}
 use Rattle.numbers.proofs.Back.{without_digits, numbers_back, fields_back}
 use Rattle.product.specs.Lists.{over}
 use Rattle.table.specs.declared.Size.{Size}
-use Rattle.listingline.specs.Line.{said, line_by, line_of}
+use Rattle.line.specs.Words.{said}
+use Rattle.listingline.specs.Line.{line_by, line_of}
 use Rattle.listingline.specs.declared.Word.{Word}
 use Rattle.rows.specs.State.{State, Ended}
 use Rattle.rows.specs.Lines.{goes, ends, step_of, read_from, read_lines}
@@ -40,7 +41,7 @@ fields_of w n ns h =
 
 line_of_lem : (w : List ℕ) (n : ℕ) (ns : List ℕ) {k : Word} → ((m : Numbers) → line_by w m ≡ said k m) → T (without 9 w) → length (n ∷ ns) ≤ most → Each (λ v. v < 100000) (n ∷ ns)
     → line_of (split 9 (w ++ over (n ∷ ns) field)) ≡ said k (numbers (n ∷ ns))
-unfolding line_of
+unfolding line_of line_by
 line_of_lem w n ns {k} e h l s = ap line_of (fields_of w n ns h) ∙ ap (line_by w) (numbers_back (n ∷ ns) l s) ∙ e _
 
 no_feed : (ns : List ℕ) → T (without 10 (over ns field))

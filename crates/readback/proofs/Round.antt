@@ -11,7 +11,7 @@ use native.Mathlib.Omega.{arith}
 use lib.Dec.{eqb}
 use lib.ListN.{length, get_or, set, length-append, length-set, length-replicate, get_or-replicate}
 use lib.Seq.{get_or-set_same, get_or-set_other}
-use borrow.Author.Tests.{eq-eqb, ne_eqb}
+use borrow.Author.Tests.{eq-eqb}
 use Rattle.text.specs.Split.{pick, first, later, without, same_bytes}
 use Rattle.numbers.specs.Digits.{decimal_in}
 use Rattle.numbers.proofs.Back.{below_ten}
@@ -24,7 +24,7 @@ use Rattle.model.specs.declared.Model.{Model}
 use Rattle.model.specs.Valid.{valid}
 use Rattle.model.proofs.Valid.{Sizes, valid_sizes}
 use Rattle.rows.specs.State.{State}
-use Rattle.listing.specs.declared.ListingRead.TheVariants.{Accepted}
+use Rattle.std.specs.Prelude.{Ok}
 use Rattle.fitting.specs.Fits.{size_of, heads_of, triples_of, Fits}
 use Rattle.ranking.specs.Rank.{largest}
 use Rattle.rows.specs.Lines.{start_state, with_header, ends, step_of, agreement, finished, read_lines, longest}
@@ -132,13 +132,13 @@ start_long : (length start_state.headcells ≡ 256) × (length start_state.tripl
 unfolding start_state
 start_long = (length-replicate 256 absent, length-replicate 2048 absent)
 
-start_none : (start_state.begun ≡ 0) × (start_state.heads ≡ 0) × (start_state.triples ≡ 0)
+start_none : (start_state.begun ≡ false) × (start_state.heads ≡ 0) × (start_state.triples ≡ 0)
 unfolding start_state
 start_none = (refl, refl, refl)
 
-agreed : (b h k t u : ℕ) → (b ≡ 0 → ⊥) → h ≡ k → t ≡ u → agreement b h k t u ≡ 0
+agreed : (b : Bool) (h k t u : ℕ) → b ≡ true → h ≡ k → t ≡ u → agreement b h k t u ≡ 0
 unfolding agreement
-agreed b h k t u x y z = rw (ne_eqb _ _ x, eq-eqb _ _ y, eq-eqb _ _ z)
+agreed b h k t u x y z = rw (x, eq-eqb _ _ y, eq-eqb _ _ z)
 
 at_end : (z : Size) (n : ℕ) (s : State) → read_lines z n s [] ≡ finished s
 unfolding first later
@@ -212,11 +212,11 @@ module _ (m : Model) (v : valid m ≡ true) (rounds : ℕ) (r : rounds ≤ large
       ∙ ap (read_lines (size_of m) 1 start_state) (sym (append-nil (bytes_of m rounds hs ts)))
       ∙ e
       ∙ at_end (size_of m) k whole_state
-      ∙ ap (λ n. ends n 0 whole_state) (agreed 1 (start_state.heads + H) H (start_state.triples + K) K (λ x. omega arith) (let a = start_none in omega arith) (let a = start_none in omega arith))
+      ∙ ap (λ n. ends n 0 whole_state) (agreed true (start_state.heads + H) H (start_state.triples + K) K refl (let a = start_none in omega arith) (let a = start_none in omega arith))
 
   -- read into any arrays that are long enough, it is accepted with its rounds, and every cell of the table is as it was written
   pub reads_back : (heads triples : List ℕ) → Fits m (length heads) (length triples)
-      → Reads m (bytes_of m rounds hs ts) heads triples (filled (heads_of m) hs heads) (filled (triples_of m) ts triples) (Accepted rounds)
+      → Reads m (bytes_of m rounds hs ts) heads triples (filled (heads_of m) hs heads) (filled (triples_of m) ts triples) (Ok rounds)
   reads_back heads triples f =
       let c = cells_fit m v in
       accepted_reads m (bytes_of m rounds hs ts) heads triples f (sym read_all) refl

@@ -19,8 +19,11 @@ use Rattle.model.proofs.Valid.{valid_sizes}
 use Rattle.lent.specs.Lending.{packed, model_in, Sized}
 use Rattle.lent.proofs.Packed.{packed_is}
 use Rattle.draft.specs.Draft.{Draft}
-use Rattle.reader.specs.declared.Reading.{Reading}
-use Rattle.reader.specs.declared.Reading.TheVariants.{Accepted, TooLong, Malformed, Misplaced, OutOfRange, TooMany}
+use Rattle.std.specs.Prelude.{Result, Ok, Err}
+use Rattle.line.specs.declared.fault.Fault.TheVariants.{Malformed, Misplaced, OutOfRange, TooMany}
+use Rattle.line.specs.declared.fault.TextError.{TextError}
+use Rattle.line.specs.declared.fault.TextError.TheVariants.{TooLong, Line}
+use Rattle.line.proofs.Faults.{fault_by}
 use Rattle.reader.specs.Reading.{meaning, empty, model_of, Read}
 use Rattle.draft.specs.Lines.{take_line}
 use Rattle.reader.specs.Text.{fresh, finished, read_from, read_model}
@@ -124,22 +127,19 @@ read_is s = go (read_model s) (accepted_right s)
     go (refused number values) g = empty_is
 
 -- the code's answer, out of what it means
-abbrev back : Answer Model → Reading
-back (answered m) = Accepted
-back (refused number values) =
-    pick (eqb number 1) TooLong
-    (pick (eqb number 2) (Malformed (get_or values 0 0))
-    (pick (eqb number 3) (Misplaced (get_or values 0 0)) (pick (eqb number 4) (OutOfRange (get_or values 0 0)) (TooMany (get_or values 0 0)))))
+abbrev back : Answer Model → Result (Unit {0}) TextError
+back (answered m) = Ok tt
+back (refused number values) = Err (pick (eqb number 1) TooLong (Line (fault_by number) (get_or values 0 0)))
 
-back_is : (r : Reading) (m : Model) → back (meaning r m) ≡ r
-back_is Accepted m = refl
-back_is TooLong m = refl
-back_is (Malformed line) m = refl
-back_is (Misplaced line) m = refl
-back_is (OutOfRange line) m = refl
-back_is (TooMany line) m = refl
+back_is : (r : Result (Unit {0}) TextError) (m : Model) → back (meaning r m) ≡ r
+back_is (Ok x) m = refl
+back_is (Err TooLong) m = refl
+back_is (Err (Line Malformed line)) m = refl
+back_is (Err (Line Misplaced line)) m = refl
+back_is (Err (Line OutOfRange line)) m = refl
+back_is (Err (Line TooMany line)) m = refl
 
 -- what the contract allows is one outcome
-pub one_outcome : {a : Answer Model} {r r' : Reading} {cells cells' : List ℕ} → Read a r cells → Read a r' cells' → (r ≡ r') × (cells ≡ cells')
+pub one_outcome : {a : Answer Model} {r r' : Result (Unit {0}) TextError} {cells cells' : List ℕ} → Read a r cells → Read a r' cells' → (r ≡ r') × (cells ≡ cells')
 one_outcome {a} {r} {r'} x y =
     (sym (back_is r (model_of a)) ∙ ap back (x.answer ∙ sym y.answer) ∙ back_is r' (model_of a), x.bytes ∙ sym y.bytes)

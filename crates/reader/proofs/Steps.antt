@@ -1,14 +1,14 @@
 -- Each line that is taken keeps what holds of the draft. Assumes nothing.
-use mathlib.Core.Bool.{false}
+use mathlib.Core.Bool.{Bool, true, false}
 use mathlib.Core.List.{[], ◌∷◌, ◌++◌}
 use mathlib.Core.Logic.{◌⊎◌, inl, inr}
-use mathlib.Core.Path.{◌≡◌, refl, ap}
+use mathlib.Core.Path.{◌≡◌, refl, ap, sym}
 use Prim.Native.Nat.{ℕ, zero, suc, ◌+◌, ◌*◌, ◌≤◌}
 use native.Mathlib.Omega.{arith}
 use lib.ListN.{get_or, replicate, length-replicate}
 use Rattle.numbers.specs.Number.{nth}
 use Rattle.numbers.specs.declared.Numbers.{Numbers}
-use Rattle.modelline.specs.declared.Line.{Line}
+use Rattle.line.specs.declared.words.Line.{Line}
 use Rattle.modelline.specs.declared.Word.{Word}
 use Rattle.modelline.specs.declared.Word.TheVariants.{Size, Start, Final, Event, Exit, Direct, Call, Move, Unknown}
 use Rattle.model.specs.Model.{rule_by}
@@ -112,6 +112,6 @@ abbrev pub Held : Said → Draft → Type 0
 Held s d = ((s ≡ nothing) × (d ≡ fresh)) ⊎ Good s d
 
 -- a line that is taken
-pub line_kept : {s : Said} {d : Draft} (l : Line) → Held s d → (take_line d l).refusal ≡ 0 → Good (and_line s l) (take_line d l).draft
+pub line_kept : {s : Said} {d : Draft} (l : Line Word) → Held s d → (take_line d l).refusal ≡ 0 → Good (and_line s l) (take_line d l).draft
 line_kept l (inl (p, q)) e = let (t, r) = gone_on _ l e in rw (r, p, q) (first_kept l.word l.numbers (rw q at t))
 line_kept {s} {d} l (inr h) e = let (t, r) = gone_on d l e in rw r (kept h l.word l.numbers t)

@@ -7,7 +7,8 @@ use lib.ListN.{length}
 use borrow.Author.Tests.{eq-eqb, ne_eqb, lt-ltb, le-ltb}
 use Rattle.text.specs.Split.{first, later, split}
 use Rattle.text.proofs.Split.{after, after_shorter, later_after, no_later, whole_piece}
-use Rattle.modelline.specs.declared.LineRead.{LineRead}
+use Rattle.line.specs.declared.words.LineRead.{LineRead}
+use Rattle.modelline.specs.declared.Word.{Word}
 use Rattle.modelline.specs.Line.{line_of, line_at}
 use Rattle.draft.specs.Draft.{Draft}
 use Rattle.draft.specs.Lines.{take_line}
@@ -32,9 +33,9 @@ module _ {text : List ℕ} {d : Draft} {l : List ℕ} {n : ℕ} (i : Turn text d
   unfolding read_from
   done z = sym i.left ∙ last refl (omega arith) ∙ rw (le-ltb _ _ z)
 
-  module _ {x : LineRead} (p : x ≡ line_at l) where
+  module _ {x : LineRead Word} (p : x ≡ line_at l) where
     found : x.end ≡ length (first 10 l)
-    found = ap (λ (y : LineRead). y.end) p
+    found = ap (λ (y : LineRead Word). y.end) p
 
     pub open_line : 0 < length l → length l ≤ x.end → read_all 1 fresh text ≡ refused 2 (n ∷ [])
     unfolding read_from
@@ -42,7 +43,8 @@ module _ {text : List ℕ} {d : Draft} {l : List ℕ} {n : ℕ} (i : Turn text d
 
     module _ (h : x.end < length l) {k : ℕ} (q : k ≡ (take_line d x.line).refusal) where
       line_is : x.line ≡ line_of (split 9 (first 10 l))
-      line_is = ap (λ (y : LineRead). y.line) p
+      unfolding line_of
+      line_is = ap (λ (y : LineRead Word). y.line) p
 
       number_is : k ≡ (take_line d (line_of (split 9 (first 10 l)))).refusal
       number_is = q ∙ ap (λ y. (take_line d y).refusal) line_is

@@ -1,19 +1,15 @@
 -- How a reading ends, with the document's number and values for each case, and the bytes that it leaves. Assumes nothing.
-use Rattle.std.specs.Prelude.{false, List, [], ◌∷◌, ◌≡◌, ℕ, replicate}
+use Rattle.std.specs.Prelude.{false, List, [], ◌∷◌, ◌≡◌, ℕ, replicate, Result, Ok, Err, OnOk}
 use Rattle.product.specs.Answer.{Answer, answered, refused}
 use Rattle.model.specs.declared.Model.{Model}
 use Rattle.lent.specs.Lending.{packed}
-use Rattle.reader.specs.declared.Reading.{Reading}
-use Rattle.reader.specs.declared.Reading.TheVariants.{Accepted, TooLong, Malformed, Misplaced, OutOfRange, TooMany}
+use Rattle.line.specs.declared.fault.TextError.{TextError}
+use Rattle.line.specs.Fault.{text_number, text_line}
 
 -- what each case of the code's answer means, where m is the model that is read
-abbrev pub meaning : Reading → (m : Model) → Answer Model
-meaning Accepted m = answered m
-meaning TooLong m = refused 1 (0 ∷ [])
-meaning (Malformed line) m = refused 2 (line ∷ [])
-meaning (Misplaced line) m = refused 3 (line ∷ [])
-meaning (OutOfRange line) m = refused 4 (line ∷ [])
-meaning (TooMany line) m = refused 5 (line ∷ [])
+abbrev pub meaning : Result (Unit {0}) TextError → (m : Model) → Answer Model
+meaning (Ok x) m = answered m
+meaning (Err e) m = refused (text_number e) (text_line e ∷ [])
 
 -- the empty record: all zeros, nothing final, nothing shown
 unfoldable pub empty : Model
@@ -36,7 +32,12 @@ abbrev pub model_of : Answer Model → Model
 model_of (answered m) = m
 model_of (refused number values) = empty
 
+-- the lines of a text, whose reading is a: the code's answer r, and the bytes of a model that is accepted
+pub record LinesRead (a : Answer Model) (r : Result (Unit {0}) TextError) (cells : List ℕ) : Type 0 where
+  pub answer : meaning r (model_of a) ≡ a
+  pub bytes : OnOk r (cells ≡ packed (model_of a))
+
 -- The contract, for a text whose reading is a: the code's answer r, and the lent bytes afterwards.
-pub record Read (a : Answer Model) (r : Reading) (cells : List ℕ) : Type 0 where
+pub record Read (a : Answer Model) (r : Result (Unit {0}) TextError) (cells : List ℕ) : Type 0 where
   pub answer : meaning r (model_of a) ≡ a
   pub bytes : cells ≡ packed (model_of a)

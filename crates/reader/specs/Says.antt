@@ -3,7 +3,7 @@ use Rattle.std.specs.Prelude.{◌&&◌, ◌||◌, List, [], ◌∷◌, ◌++◌,
 use Rattle.text.specs.Split.{first, later, split}
 use Rattle.numbers.specs.Number.{nth}
 use Rattle.numbers.specs.declared.Numbers.{Numbers}
-use Rattle.modelline.specs.declared.Line.{Line}
+use Rattle.line.specs.declared.words.Line.{Line}
 use Rattle.modelline.specs.declared.Word.{Word}
 use Rattle.modelline.specs.declared.Word.TheVariants.{Size, Start, Final, Event, Exit, Direct, Call, Move, Unknown}
 use Rattle.modelline.specs.Line.{line_of}
@@ -55,7 +55,7 @@ more s Call n = add_rule s (call (nth n 0) (nth n 1) (nth n 2))
 more s Move n = add_move s (record { source = nth n 0; event = nth n 1; target = nth n 2 })
 more s Unknown n = s
 
-abbrev pub and_line : Said → Line → Said
+abbrev pub and_line : Said → Line Word → Said
 and_line s l = more s l.word l.numbers
 
 -- the pieces between line feeds, of which all but the last are lines

@@ -1,64 +1,28 @@
 // Reads a model from its text into the lent bytes. specs/Text.antt says what is read, and specs/Says.antt what an accepted record holds.
 #![tactic(auto)]
 
-ghost use Rattle.std.specs.Prelude.{◌≡◌, [], ◌∷◌, ℕ, ◌≤◌, length, replicate};
+ghost use Rattle.std.specs.Prelude.{◌≡◌, ◌≤◌, length, replicate};
 ghost use Rattle.std.proofs.lemmas.List.Edits.{sets};
-ghost use Rattle.product.specs.Answer.{refused};
 ghost use Rattle.text.specs.Split.{first, later};
-ghost use Rattle.model.specs.declared.Model.{Model};
 ghost use Rattle.draft.specs.Draft.{Draft};
 ghost use Rattle.draft.specs.Written.{Stands};
-ghost use Rattle.reader.specs.Reading.{meaning, Read};
+ghost use Rattle.reader.specs.Reading.{LinesRead, Read};
 ghost use Rattle.reader.specs.Text.{no_outline, last_of, fresh, finished, read_from, read_model};
 
 use draft::Outline;
 use lent::Lent;
 use limits::Counts;
+use line::{Fault, TextError};
+use modelline::Word;
 
 // The longest text that is read.
 const LONGEST: usize = 16384;
-
-// How a reading ends: with the number of the line that is refused, from 1, and 0 where no line is.
-#[derive(Clone, Copy)]
-pub enum Reading {
-    Accepted,
-    TooLong,
-    Malformed(usize),
-    Misplaced(usize),
-    OutOfRange(usize),
-    TooMany(usize),
-}
 
 // The bytes of the empty record.
 fn clear(m: &mut Lent)
     ensures { m.new ≡ replicate 1936 0 }
 {
     *m = [0u8; 1936];
-}
-
-// Of a text that is refused nothing is left.
-fn refuse(m: &mut Lent, reading: Reading) -> Reading
-    ensures { (result ≡ reading) × (m.new ≡ replicate 1936 0) }
-{
-    clear(m);
-    reading
-}
-
-// The refusals of a line by their number, 2 to 5.
-fn numbered(n: u8, line: usize) -> Reading
-    requires { (2 ≤ n) × (n ≤ 5) }
-    ensures { (m : Model) → meaning result m ≡ refused n (line ∷ []) }
-{
-    if n == 2 {
-        return Reading::Malformed(line);
-    }
-    if n == 3 {
-        return Reading::Misplaced(line);
-    }
-    if n == 4 {
-        return Reading::OutOfRange(line);
-    }
-    Reading::TooMany(line)
 }
 
 fn no_outline() -> Outline
@@ -96,53 +60,58 @@ fn put_outline(m: &mut Lent, o: Outline)
 }
 
 // After the last line: what was read is a draft d.
-fn finish(m: &mut Lent, o: Outline) -> Reading
-    ensures { (d : Draft) → Stands (replicate 8 0) o m.old d → Read (finished d) result m.new }
+fn finish(m: &mut Lent, o: Outline) -> Result<(), TextError>
+    ensures { (d : Draft) → Stands (replicate 8 0) o m.old d → LinesRead (finished d) result m.new }
 {
-    let counts = o.counts;
-    if counts.started == 0 {
-        return refuse(m, Reading::Misplaced(0));
+    if o.counts.started == 0 {
+        return Err(TextError::Line {
+            fault: Fault::Misplaced,
+            line: 0,
+        });
     }
     put_outline(m, o);
-    Reading::Accepted
+    Ok(())
 }
 
 // Line by line: what stands after the last line feed is no line, and must be empty. The bytes are those of the empty record.
-fn read_lines(text: &[u8], m: &mut Lent) -> Reading
+fn read_lines(text: &[u8], m: &mut Lent) -> Result<(), TextError>
     requires text_len_bound { length text.now ≤ 16384 }
     requires m_value { m.old ≡ replicate 1936 0 }
-    ensures { Read (read_from 1 fresh (first 10 text.now) (later 10 text.now)) result m.new }
+    ensures { LinesRead (read_from 1 fresh (first 10 text.now) (later 10 text.now)) result m.new }
 {
     let mut o = no_outline();
     let mut left = text;
     let mut n: usize = 1;
-    while 0 < left.len() {
-        let l = modelline::read_line(left);
+    while !left.is_empty() {
+        let l = line::read_line::<Word>(left);
         let e = l.end;
         if left.len() <= e {
-            return refuse(m, Reading::Malformed(n));
+            return Err(TextError::Line {
+                fault: Fault::Malformed,
+                line: n,
+            });
         }
-        let said = l.line;
-        let t = draft::take_line(m, o, said);
-        let refusal = t.refusal;
-        if refusal != 0 {
-            return refuse(m, numbered(refusal, n));
+        match draft::take_line(m, o, l.line) {
+            Ok(next) => o = next,
+            Err(fault) => return Err(TextError::Line { fault, line: n }),
         }
-        o = t.outline;
         n += 1;
-        let b = e + 1;
-        left = &left[b..];
+        left = &left[e + 1..];
     }
     finish(m, o)
 }
 
 // Reads the model of a text. A text that is refused leaves the bytes of the empty record.
-pub fn read_model(text: &[u8], m: &mut Lent) -> Reading
+pub fn read_model(text: &[u8], m: &mut Lent) -> Result<(), TextError>
     ensures { Read (read_model text.now) result m.new }
 {
     clear(m);
     if LONGEST < text.len() {
-        return Reading::TooLong;
+        return Err(TextError::TooLong);
     }
-    read_lines(text, m)
+    if let Err(e) = read_lines(text, m) {
+        clear(m);
+        return Err(e);
+    }
+    Ok(())
 }

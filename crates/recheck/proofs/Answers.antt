@@ -18,9 +18,10 @@ use Rattle.model.specs.Model.{product_of}
 use Rattle.model.proofs.Valid.{product_in_lem}
 use Rattle.fitting.specs.Fits.{size_of, Fits}
 use Rattle.fitting.proofs.Tested.{tested_well, guarded_by}
-use Rattle.recheck.specs.declared.Recheck.{Recheck}
-use Rattle.recheck.specs.declared.Recheck.TheVariants.{Accepted, Invalid, Short, NoStart, Violating, Open}
-use Rattle.recheck.specs.Recheck.{meaning, in_table, recheck}
+use Rattle.std.specs.Prelude.{Ok, Err}
+use Rattle.fitting.specs.declared.Unfit.TheVariants.{Invalid, Short}
+use Rattle.recheck.specs.declared.CheckError.TheVariants.{Refused, NoStart, Violating, Open}
+use Rattle.recheck.specs.Recheck.{Recheck, meaning, in_table, recheck}
 
 -- a reason is never an acceptance
 answer_passes : (c : Checked) → answered accepted ≡ check_answer c → c ≡ passes
@@ -55,19 +56,19 @@ module _ (m : Model) (hs ts : List ℕ) where
 
 -- the number and values of an answer leave no other
 abbrev meant : Answer Acceptance → Recheck
-meant (answered a) = Accepted
-meant (refused n (reason ∷ r ∷ v ∷ _)) = cond (eqb reason 1) NoStart (cond (eqb reason 2) Violating (Open r v))
-meant (refused n []) = Short
-meant (refused n (a ∷ [])) = cond (eqb n 6) Invalid Short
-meant (refused n (a ∷ b ∷ [])) = Short
+meant (answered a) = Ok tt
+meant (refused n (reason ∷ r ∷ v ∷ _)) = cond (eqb reason 1) (Err NoStart) (cond (eqb reason 2) (Err Violating) (Err (Open r v)))
+meant (refused n []) = Err (Refused Short)
+meant (refused n (a ∷ [])) = cond (eqb n 6) (Err (Refused Invalid)) (Err (Refused Short))
+meant (refused n (a ∷ b ∷ [])) = Err (Refused Short)
 
 meant_meaning : (r : Recheck) → meant (meaning r) ≡ r
-meant_meaning Accepted = refl
-meant_meaning Invalid = refl
-meant_meaning Short = refl
-meant_meaning NoStart = refl
-meant_meaning Violating = refl
-meant_meaning (Open r v) = refl
+meant_meaning (Ok x) = refl
+meant_meaning (Err (Refused Invalid)) = refl
+meant_meaning (Err (Refused Short)) = refl
+meant_meaning (Err NoStart) = refl
+meant_meaning (Err Violating) = refl
+meant_meaning (Err (Open r v)) = refl
 
 pub meaning_one : (r r' : Recheck) → meaning r ≡ meaning r' → r ≡ r'
 meaning_one = apart meant meant_meaning

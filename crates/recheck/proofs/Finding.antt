@@ -4,13 +4,13 @@ use mathlib.Core.List.{List, [], ◌∷◌}
 use mathlib.Core.Logic.{inl, inr}
 use mathlib.Core.Option.{Option, none, some}
 use mathlib.Core.Path.{◌≡◌, refl}
-use Prim.Native.Nat.{ℕ, ◌≤◌}
+use Prim.Native.Nat.{ℕ}
 use native.Mathlib.Omega.{arith}
-use Rattle.product.specs.Lists.{up_to, over, find, ◌∈◌}
+use Rattle.std.specs.Prelude as code
+use Rattle.product.specs.Lists.{find, ◌∈◌}
 use Rattle.product.specs.Product.{Step}
 use Rattle.model.proofs.Counted.{passed, failed}
-use Rattle.recheck.specs.declared.Found.{Found}
-use Rattle.recheck.specs.declared.Found.TheVariants.{At, Nowhere}
+use Rattle.recheck.specs.declared.Opening.{Opening}
 use Rattle.recheck.specs.Tests.{step, found_as}
 
 -- two tests that agree on the list
@@ -27,14 +27,10 @@ module _ {A : Type 0} (k : A → Bool) (x : A) {b : Bool} (tested : b ≡ k x) w
   miss h = rw (passed tested h)
 
 -- what the code answered
-pub found_some : (o : Option Step) {f : Found} {r v : ℕ} → f ≡ found_as o → f ≡ At r v → o ≡ some (step r v)
+pub found_some : (o : Option Step) {f : code.Option Opening} {x : Opening} → f ≡ found_as o → f ≡ code.Some x → o ≡ some (step x.rule x.by)
 found_some none e h = let z : ◌≡◌ {A = ℕ} 0 1 = cc in absurd (omega arith)
-found_some (some s) {r = r} {v = v} e h = let i : s.by_rule ≡ r = cc in let j : s.by_move ≡ v = cc in rw (← i, ← j)
+found_some (some s) {x = x} e h = let i : ◌≡◌ {A = Opening} (record { rule = s.by_rule; by = s.by_move }) x = cc in rw (← i)
 
-pub found_none : (o : Option Step) {f : Found} → f ≡ found_as o → f ≡ Nowhere → o ≡ none
+pub found_none : (o : Option Step) {f : code.Option Opening} → f ≡ found_as o → f ≡ code.None → o ≡ none
 found_none none e h = refl
 found_none (some s) e h = let z : ◌≡◌ {A = ℕ} 0 1 = cc in absurd (omega arith)
-
--- the search has come to its end
-pub nowhere : (p : Step → Bool) (f : ℕ → List Step) {i n : ℕ} → i ≤ n → n ≤ i → find p (over (up_to i) f) ≡ none → Nowhere ≡ found_as (find p (over (up_to n) f))
-nowhere p f {i} {n} l k h = let e : i ≡ n = omega arith in rw (← e, h)

@@ -1,5 +1,6 @@
 -- Which steps are closed in the facts t of a table; and the first that is not. Assumes nothing.
-use Rattle.std.specs.Prelude.{Bool, false, not, List, ◌≡◌, ℕ, ◌<◌, ◌≤◌, T, get_or}
+use Rattle.std.specs.Prelude as code
+use Rattle.std.specs.Prelude.{Bool, false, not, List, ◌≡◌, ℕ, ◌<◌, T, get_or, MatchOption}
 use Rattle.std.proofs.Math.Option.{Option, none, some}
 use Rattle.product.specs.Lists.{up_to, over, each, all, find}
 use Rattle.product.specs.Product.{Step, Product}
@@ -9,8 +10,7 @@ use Rattle.model.specs.Model.{rule, product_of}
 use Rattle.steps.specs.Steps.{class_of}
 use Rattle.kept.specs.Kept.{next_kept}
 use Rattle.closed.specs.Closed.{rule_closed}
-use Rattle.recheck.specs.declared.Found.{Found}
-use Rattle.recheck.specs.declared.Found.TheVariants.{At, Nowhere}
+use Rattle.recheck.specs.declared.Opening.{Opening}
 
 abbrev pub step : (r v : ℕ) → Step
 step r v = record { by_rule = r; by_move = v }
@@ -29,9 +29,9 @@ is_closed p states t s = steps_kept p states t s.by_rule s.by_move
 abbrev pub is_open : Product → (states : ℕ) → (Fact → Bool) → Step → Bool
 is_open p states t s = not (is_closed p states t s)
 
-abbrev pub found_as : Option Step → Found
-found_as none = Nowhere
-found_as (some s) = At s.by_rule s.by_move
+abbrev pub found_as : Option Step → code.Option Opening
+found_as none = code.None
+found_as (some s) = code.Some (record { rule = s.by_rule; by = s.by_move })
 
 -- the first step of a model's rules and moves that is not closed, rule by rule and move by move
 abbrev pub opening_of : Model → (Fact → Bool) → Option Step
@@ -41,8 +41,6 @@ opening_of m t = find (is_open (product_of m) m.states t) (over (up_to m.rules) 
 unfoldable pub closed_by : Model → (tg ts hs : List ℕ) → (r : ℕ) → Bool
 closed_by m tg ts hs r = rule_closed ts hs (get_or tg (class_of m r) 0) (rule m r)
 
--- k is the first of n numbers that does not pass, or n where all do
-pub record FirstOpen (p : ℕ → Bool) (n k : ℕ) : Type 0 where
-  pub within : k ≤ n
-  pub before : (r : ℕ) → r < k → T (p r)
-  pub here : k < n → p k ≡ false
+-- the first of n numbers that does not pass, or none where all do
+abbrev pub FirstOpen : (p : ℕ → Bool) → (n : ℕ) → code.Option ℕ → Type 0
+FirstOpen p n found = MatchOption found ((r : ℕ) → r < n → T (p r)) (λ k. (k < n) × (p k ≡ false) × ((r : ℕ) → r < k → T (p r)))

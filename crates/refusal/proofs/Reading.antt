@@ -1,7 +1,7 @@
 -- The line of a refused reading is a small number; and what is printed of a text, by what was read. Assumes nothing.
 use mathlib.Core.Bool.{Bool, true, false}
 use mathlib.Core.List.{List, [], ◌∷◌}
-use mathlib.Core.Path.{◌≡◌, refl, ap, sym, ◌∙◌, subst, subst⁻¹}
+use mathlib.Core.Path.{◌≡◌, refl, ap, ap₂, sym, ◌∙◌, subst, subst⁻¹}
 use Prim.Native.Nat.{ℕ, ◌+◌, ◌<◌, ◌≤◌}
 use native.Mathlib.Omega.{arith}
 use lib.Dec.{T, eqb, ltb}
@@ -19,12 +19,13 @@ use Rattle.text.proofs.Puts.{as_put, none_put}
 use Rattle.draft.specs.Draft.{Draft}
 use Rattle.draft.specs.Lines.{take_line}
 use Rattle.reader.proofs.Accepted.{accepted_valid, read_is}
-use Rattle.reader.specs.declared.Reading.{Reading}
-use Rattle.reader.specs.declared.Reading.TheVariants.{Accepted, TooLong, Malformed, Misplaced, OutOfRange, TooMany}
-use Rattle.reader.specs.Reading.{meaning, empty, model_of, Read}
+use Rattle.std.specs.Prelude.{Result, Ok, Err}
+use Rattle.std.specs.Result.{is_ok}
+use Rattle.line.specs.declared.fault.TextError.{TextError}
+use Rattle.line.specs.Fault.{text_number, text_line}
+use Rattle.reader.specs.Reading.{model_of, Read}
 use Rattle.reader.specs.Text.{fresh, read_from, read_model}
-use Rattle.refusal.specs.declared.Seen.{Seen}
-use Rattle.refusal.specs.Refusal.{line_in, is_answered, unless_refused, refusal_bytes, Seeing}
+use Rattle.refusal.specs.Refusal.{line_in, is_answered, unless_refused, refused_bytes, refusal_bytes, end_of, Seeing}
 
 pub lines_few : (s : List ℕ) → length (later 10 s) ≤ length s
 unfolding later
@@ -62,37 +63,18 @@ line_small s = go (ltb 16384 (length s)) refl
 different : false ≡ true → ⊥
 different e = let z : ◌≡◌ {A = ℕ} 0 1 = cc in omega arith
 
--- by the case of a reading
-pub case_put : {o p : List ℕ} {a b : ℕ} {r w : Reading} → r ≡ w → Put o p a b (refusal_bytes (meaning w empty)) → Put o p a b (refusal_bytes (meaning r empty))
-case_put e x = as_put (ap (λ r. refusal_bytes (meaning r empty)) (sym e)) x
+-- what was read is what is meant: a text that is accepted
+module _ (s : List ℕ) {cells : List ℕ} where
+  pub seeing : Read (read_model s) (Ok tt) cells → (o : List ℕ) → Seeing s o o (Ok tt) cells
+  seeing x o = record { accepts = ap is_answered x.answer; reads = x.bytes; puts = as_put (ap refusal_bytes x.answer) (none_put o 0 (omega arith)) }
 
-pub case_line : {r w : Reading} → r ≡ w → line_in (meaning r empty) < 65536 → line_in (meaning w empty) < 65536
-case_line e h = subst (λ r. line_in (meaning r empty) < 65536) e h
+  -- and one that is refused
+  module _ {e : TextError} (x : Read (read_model s) (Err e) cells) where
+    pub line_fits : text_line e < 65536
+    line_fits = omega (arith, line_small s, ap line_in x.answer)
 
--- what does not look at the model is the same for any
-unlooked : {B : Type 0} (f : Answer Model → B) → ((m m' : Model) → f (answered m) ≡ f (answered m')) → (r : Reading) (m m' : Model) → f (meaning r m) ≡ f (meaning r m')
-unlooked f same Accepted m m' = same m m'
-unlooked f same TooLong m m' = refl
-unlooked f same (Malformed line) m m' = refl
-unlooked f same (Misplaced line) m m' = refl
-unlooked f same (OutOfRange line) m m' = refl
-unlooked f same (TooMany line) m m' = refl
-
--- nothing is put
-pub nothing_put : (o : List ℕ) → Put o o 0 0 []
-nothing_put o = none_put o 0 (omega arith)
-
--- what was read is what is meant
-module _ (s : List ℕ) {r : Reading} {cells : List ℕ} (x : Read (read_model s) r cells) where
-  meant : {B : Type 0} (f : Answer Model → B) → ((m m' : Model) → f (answered m) ≡ f (answered m')) → f (meaning r empty) ≡ f (read_model s)
-  meant f same = unlooked f same r empty (model_of (read_model s)) ∙ ap f x.answer
-
-  pub line_fits : line_in (meaning r empty) < 65536
-  line_fits = omega (arith, line_small s, meant line_in (λ m m'. refl))
-
-  pub seeing : {o p : List ℕ} {accepted : Bool} {end : ℕ} → accepted ≡ is_answered (meaning r empty) → Put o p 0 end (refusal_bytes (meaning r empty))
-      → Seeing s o p (record { accepted = accepted; end = end }) cells
-  seeing a y = record { accepts = a ∙ meant is_answered (λ m m'. refl); reads = x.bytes; puts = as_put (meant refusal_bytes (λ m m'. refl)) y }
+    pub refusing : {o p : List ℕ} {number line end : ℕ} → number ≡ text_number e → line ≡ text_line e → Put o p 0 end (refused_bytes number line) → Seeing s o p (Err end) cells
+    refusing n l y = record { accepts = ap is_answered x.answer; reads = x.bytes; puts = as_put (ap₂ refused_bytes n l ∙ ap refusal_bytes x.answer) y }
 
 -- the model of a text that is accepted
 accepted_is : (a : Answer Model) → is_answered a ≡ true → a ≡ answered (model_of a)
@@ -104,12 +86,12 @@ refused_same : (a : Answer Model) (output : Model → List ℕ) → is_answered 
 refused_same (answered m) output e = absurd (different (sym e))
 refused_same (refused number values) output e = refl
 
-module _ {text o p cells : List ℕ} {s : Seen} (x : Seeing text o p s cells) where
+module _ {text o p cells : List ℕ} {r : Result (Unit {0}) ℕ} (x : Seeing text o p r cells) where
   -- what was read is what the bytes say
   model_read : model_in cells ≡ model_of (read_model text)
   model_read = ap model_in x.reads ∙ read_is text
 
-  module _ (t : s.accepted ≡ true) where
+  module _ (t : is_ok r ≡ true) where
     is_accepted : read_model text ≡ answered (model_of (read_model text))
     is_accepted = accepted_is (read_model text) (sym x.accepts ∙ t)
 
@@ -122,5 +104,5 @@ module _ {text o p cells : List ℕ} {s : Seen} (x : Seeing text o p s cells) wh
         let same : p ≡ o = x.puts.cells ∙ ap (λ a. sets o 0 (refusal_bytes a)) is_accepted in
         as_put (ap output model_read ∙ sym (ap (λ a. unless_refused a output) is_accepted)) (subst (λ p. Put p q 0 b (output (model_in cells))) same y)
 
-  pub refused_put : s.accepted ≡ false → (output : Model → List ℕ) → Put o p 0 s.end (unless_refused (read_model text) output)
+  pub refused_put : is_ok r ≡ false → (output : Model → List ℕ) → Put o p 0 (end_of r) (unless_refused (read_model text) output)
   refused_put t output = as_put (refused_same (read_model text) output (sym x.accepts ∙ t)) x.puts

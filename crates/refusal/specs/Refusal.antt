@@ -1,5 +1,6 @@
 -- What is printed of a text that is refused, and what reading one leaves. Assumes nothing.
-use Rattle.std.specs.Prelude.{Bool, true, false, List, [], ◌∷◌, ◌≡◌, ℕ, get_or}
+use Rattle.std.specs.Prelude.{Bool, true, false, List, [], ◌∷◌, ◌≡◌, ℕ, get_or, Result, Ok, Err}
+use Rattle.std.specs.Result.{is_ok}
 use Rattle.product.specs.Answer.{Answer, answered, refused}
 use Rattle.model.specs.declared.Model.{Model}
 use Rattle.lent.specs.Lending.{packed}
@@ -7,7 +8,6 @@ use Rattle.reader.specs.Reading.{model_of}
 use Rattle.reader.specs.Text.{read_model}
 use Rattle.print.specs.Bytes.{line_bytes}
 use Rattle.text.specs.Put.{Put}
-use Rattle.refusal.specs.declared.Seen.{Seen}
 
 -- "refused"
 abbrev pub refused_word : List ℕ
@@ -35,8 +35,13 @@ abbrev pub line_in : Answer Model → ℕ
 line_in (answered m) = 0
 line_in (refused number values) = get_or values 0 0
 
+-- the place behind what was put: nothing is put where a text is accepted
+abbrev pub end_of : Result (Unit {0}) ℕ → ℕ
+end_of (Ok x) = 0
+end_of (Err end) = end
+
 -- the reading of a text: whether it is accepted, the bytes of its model, and its refusal put from the first byte on; nothing is put where it is accepted
-pub record Seeing (text out after : List ℕ) (seen : Seen) (cells : List ℕ) : Type 0 where
-  pub accepts : seen.accepted ≡ is_answered (read_model text)
+pub record Seeing (text out after : List ℕ) (r : Result (Unit {0}) ℕ) (cells : List ℕ) : Type 0 where
+  pub accepts : is_ok r ≡ is_answered (read_model text)
   pub reads : cells ≡ packed (model_of (read_model text))
-  pub puts : Put out after 0 seen.end (refusal_bytes (read_model text))
+  pub puts : Put out after 0 (end_of r) (refusal_bytes (read_model text))

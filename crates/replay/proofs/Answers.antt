@@ -13,9 +13,9 @@ use Rattle.model.specs.declared.Model.{Model}
 use Rattle.model.specs.Model.{product_of}
 use Rattle.model.specs.Valid.{valid}
 use Rattle.model.proofs.Bounds.{is_valid}
-use Rattle.replay.specs.declared.Replayed.{Replayed}
-use Rattle.replay.specs.declared.Replayed.TheVariants.{Invalid, Short}
-use Rattle.replay.specs.Replay.{meaning, replayed_as, left, Replays}
+use Rattle.std.specs.Prelude.{Err}
+use Rattle.replay.specs.declared.ReplayError.TheVariants.{Invalid, Short}
+use Rattle.replay.specs.Replay.{Replayed, meaning, replayed_as, left, Replays}
 use Rattle.replay.specs.Machine.{Runs, Ran}
 
 -- after any run the cells are cleared
@@ -29,10 +29,10 @@ means_replayed (stops k) = refl
 
 -- b is what the test of the record gave
 module _ (m : Model) (steps cells : List ℕ) {b : Bool} (tested : b ≡ valid m) where
-  pub invalid : b ≡ false → Replays m steps cells Invalid cells
+  pub invalid : b ≡ false → Replays m steps cells (Err Invalid) cells
   invalid n = record { answer = rw (sym tested ∙ n); cells = refl }
 
-  pub short : b ≡ true → length cells ≤ length steps → Replays m steps cells Short cells
+  pub short : b ≡ true → length cells ≤ length steps → Replays m steps cells (Err Short) cells
   short y l = record { answer = rw (sym tested ∙ y, le-ltb (length steps) (length cells) l); cells = refl }
 
   pub runs : b ≡ true → length steps < length cells → Runs m steps cells

@@ -23,10 +23,10 @@ use Rattle.model.proofs.Valid.{Sizes, valid_sizes, product_in_lem}
 use Rattle.replay.specs.declared.Machine.{Machine}
 use Rattle.replay.specs.declared.Outcome.{Outcome}
 use Rattle.replay.specs.declared.Outcome.TheVariants.{Moved, Blocked, Arrived}
-use Rattle.replay.specs.declared.Replayed.TheVariants.{Accepted, Bad}
-use Rattle.replay.specs.Replay.{replayed_as}
+use Rattle.std.specs.Prelude.{Ok, Err}
+use Rattle.replay.specs.declared.ReplayError.TheVariants.{Bad}
+use Rattle.replay.specs.Replay.{Replayed, replayed_as}
 use Rattle.replay.specs.Machine.{below, Ready, machine, outcome, Held, Stepped, Ran}
-use Rattle.replay.specs.declared.Replayed.{Replayed}
 
 -- what the outcome of a step says of it
 module _ (p : Product) (number : ℕ) where
@@ -137,24 +137,24 @@ module _ (m : Model) (steps : List ℕ) where
           final_now = f;
         }
 
-    pub blocked : k < length steps → {o : Outcome} {cells' : List ℕ} → Done o cells' → {n : ℕ} → o ≡ Blocked n → Ran m steps cells₀ (Bad n) cells'
+    pub blocked : k < length steps → {o : Outcome} {cells' : List ℕ} → Done o cells' → {n : ℕ} → o ≡ Blocked n → Ran m steps cells₀ (Err (Bad n)) cells'
     blocked l {o} {cells'} did {n} e =
         let (c, i) = was_blocked (product_of m) (k + 1) (step (product_of m) next here) (sym did.came ∙ e) in
         record {
-          answer = rw (sym (asked l) ∙ breaks (product_of m) k here next later c) (ap Bad (sym i ∙ add-one k));
+          answer = rw (sym (asked l) ∙ breaks (product_of m) k here next later c) (ap (λ n. Err (Bad n)) (sym i ∙ add-one k));
           rest = rest_after l cells' did;
         }
 
-    pub finished : length steps ≤ k → (b : Bool) → accepting ≡ b → Ran m steps cells₀ (cond b Accepted (Bad (k + 1))) cells
+    pub finished : length steps ≤ k → (b : Bool) → accepting ≡ b → Ran m steps cells₀ (cond b (Ok tt) (Err (Bad (length steps + 1)))) cells
     finished l b e =
         let i : k ≡ length steps = omega (arith, now.upto) in
         let none_left : drop k steps ≡ [] = rw i (drop-length steps) in
         let x : replay_from (product_of m) k here [] ≡ replay (product_of m) (each steps loaded) = rw none_left at now.to_do in
-        record { answer = rw (sym x ∙ ends (product_of m) k here b (now.final_now ∙ e)) (said b); rest = now.rest }
+        record { answer = rw (← i) (rw (sym x ∙ ends (product_of m) k here b (now.final_now ∙ e)) (said b)); rest = now.rest }
       where
-        said : (b : Bool) → cond b Accepted (Bad (k + 1)) ≡ replayed_as (cond b replays (stops (suc k)))
+        said : (b : Bool) → cond b (Ok tt) (Err (Bad (k + 1))) ≡ replayed_as (cond b replays (stops (suc k)))
         said true = refl
-        said false = ap Bad (add-one k)
+        said false = ap (λ n. Err (Bad n)) (add-one k)
 
   -- the start symbol is put into the first cell before the run
   from_start : (cells : List ℕ) {r : Replayed} {cells' : List ℕ} → Ran m steps (set cells 0 m.startsymbol) r cells' → Ran m steps cells r cells'

@@ -11,8 +11,7 @@ use Rattle.product.specs.Product.{exit, direct, call, pushed, Product, Step, rul
 use Rattle.product.specs.Lists.{All}
 use Rattle.product.specs.Runs.{State, replaced, step}
 use Rattle.model.specs.declared.Rule.{Rule}
-use Rattle.model.specs.declared.Next.{Next}
-use Rattle.model.specs.declared.Next.TheVariants.{To, Stuck}
+use Rattle.std.specs.Prelude.{Option, Some, None}
 use Rattle.model.specs.Answers.{rule_as, meant, next_as}
 use Rattle.model.proofs.Answers.{meant_as}
 use Rattle.replay.specs.declared.Outcome.{Outcome}
@@ -61,14 +60,14 @@ module _ {p : Product} {cells : List ℕ} {depth : ℕ} (ready : Ready p cells d
   unfolding step
   empty e = stays p number depth s (q, below cells depth) cells (rw e)
 
-  module _ (some_top : 1 ≤ depth) {n : Next} (answer : n ≡ next_as (goes_at p s q top)) where
+  module _ (some_top : 1 ≤ depth) {n : Option ℕ} (answer : n ≡ next_as (goes_at p s q top)) where
     by_top : step p s (q, below cells depth) ≡ replaced (rule_of p s) (below cells (depth - 1)) (goes_at p s q top)
     by_top = ap (λ w. step p s (q, w)) (below_top cells depth some_top) ∙ step_goes p s q top (below cells (depth - 1))
 
-    pub stuck : n ≡ Stuck → Done (Blocked number) cells
+    pub stuck : n ≡ None → Done (Blocked number) cells
     stuck e = stays p number depth s (q, below cells depth) cells (by_top ∙ ap (replaced (rule_of p s) (below cells (depth - 1))) (went p s q top answer e))
 
-    module _ {q' : ℕ} (to : n ≡ To q') {ρ : Rule} (read : ρ ≡ rule_as (rule_of p s)) where
+    module _ {q' : ℕ} (to : n ≡ Some q') {ρ : Rule} (read : ρ ≡ rule_as (rule_of p s)) where
       goes : goes_at p s q top ≡ some q'
       goes = went p s q top answer to
 

@@ -11,8 +11,7 @@ use Rattle.model.specs.Valid.{valid}
 use Rattle.replay.specs.declared.Machine.{Machine}
 use Rattle.replay.specs.declared.Outcome.{Outcome}
 use Rattle.replay.specs.declared.Outcome.TheVariants.{Moved, Blocked, Arrived}
-use Rattle.replay.specs.declared.Replayed.{Replayed}
-use Rattle.replay.specs.Replay.{replayed_as}
+use Rattle.replay.specs.Replay.{Replayed, replayed_as}
 
 -- the stack of depth d: the first d cells, the last of them on top
 abbrev pub below : List ℕ → ℕ → List ℕ

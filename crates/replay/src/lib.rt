@@ -9,12 +9,11 @@ ghost use Rattle.replay.specs.Replay.{Replays};
 ghost use Rattle.replay.specs.Machine.{below, Room, Replaced, goes_at, Ready, Stepped, Runs, Ran};
 
 use lent::{Lent, is_final, is_valid, next_state, rule_at, shape};
-use model::{Next, Rule};
+use model::Rule;
 
-// The answer to a trace: accepted; refusals 6, 7 and 12, with the number of the bad step.
-#[derive(Clone, Copy)]
-pub enum Replayed {
-    Accepted,
+// Why a trace is not accepted: refusals 6, 7 and 12, with the number of the bad step.
+#[derive(Clone, Copy, PartialEq, Eq, Debug)]
+pub enum ReplayError {
     Invalid,
     Short,
     Bad(usize),
@@ -27,7 +26,7 @@ pub struct Machine {
     pub depth: usize,
 }
 
-// One step of the machine: into a state that is not final, none (with the step's number), or into a final state.
+// One step of the machine: into a state that is not final, none (with the step's number), or into a final state. The description fixes these three.
 #[derive(Clone, Copy)]
 pub enum Outcome {
     Moved(Machine),
@@ -39,11 +38,7 @@ pub enum Outcome {
 fn replaces(rule: Rule, g: usize) -> bool
     ensures { result ≡ eqb (symbol (meant rule)) g }
 {
-    match rule {
-        Rule::Exit(old) => old == g,
-        Rule::Direct(old, _) => old == g,
-        Rule::Call(old, _, _) => old == g,
-    }
+    rule.symbol() == g
 }
 
 // Replaces the top as the rule says, and gives the new depth.
@@ -67,13 +62,13 @@ fn replace(stack: &mut [u8], depth: usize, rule: Rule) -> usize
 }
 
 // The state after the stored step n from state q with g on top, or none: one that names no rule or move is no step.
-fn goes(m: &Lent, n: u16, q: usize, g: usize) -> Next
+fn goes(m: &Lent, n: u16, q: usize, g: usize) -> Option<usize>
     ensures { result ≡ next_as (goes_at (product_in m.now) (loaded n) q g) }
 {
     let r = (n / 128) as usize;
     let v = (n % 128) as usize;
     if !replaces(rule_at(m, r), g) {
-        return Next::Stuck;
+        return None;
     }
     next_state(m, r, v, q)
 }
@@ -91,8 +86,8 @@ fn step(m: &Lent, stack: &mut [u8], at: Machine, n: u16, number: usize) -> Outco
     let top = stack[depth - 1] as usize;
     let next = goes(m, n, at.state, top);
     match next {
-        Next::Stuck => Outcome::Blocked(number),
-        Next::To(q) => {
+        None => Outcome::Blocked(number),
+        Some(q) => {
             let rule = rule_at(m, (n / 128) as usize);
             let reached = Machine {
                 state: q,
@@ -111,15 +106,11 @@ fn clear(stack: &mut [u8], count: usize)
     requires { count ≤ length stack.old }
     ensures { stack.new ≡ replicate count 0 ++ drop count stack.old }
 {
-    let mut i = 0;
-    while i < count {
-        stack[i] = 0;
-        i += 1;
-    }
+    stack[..count].fill(0);
 }
 
 // Runs the steps from the start. The outcome of the last decides; before any step, the start does.
-fn run(m: &Lent, steps: &[u16], stack: &mut [u8]) -> Replayed
+fn run(m: &Lent, steps: &[u16], stack: &mut [u8]) -> Result<(), ReplayError>
     requires { Runs (model_in m.now) steps.now stack.old }
     ensures { Ran (model_in m.now) steps.now stack.old result stack.new }
 {
@@ -131,13 +122,11 @@ fn run(m: &Lent, steps: &[u16], stack: &mut [u8]) -> Replayed
         depth: 1,
     };
     let mut accepting = is_final(m, start);
-    let mut k: usize = 0;
-    while k < steps.len() {
+    for k in 0..steps.len() {
         let outcome = step(m, stack, at, steps[k], k + 1);
-        k += 1;
         match outcome {
             Outcome::Blocked(number) => {
-                return Replayed::Bad(number);
+                return Err(ReplayError::Bad(number));
             }
             Outcome::Moved(next) => {
                 at = next;
@@ -150,20 +139,20 @@ fn run(m: &Lent, steps: &[u16], stack: &mut [u8]) -> Replayed
         }
     }
     if accepting {
-        return Replayed::Accepted;
+        return Ok(());
     }
-    Replayed::Bad(k + 1)
+    Err(ReplayError::Bad(steps.len() + 1))
 }
 
 // Replays a stored trace over a stack that the caller lends.
-pub fn replay_steps(m: &Lent, steps: &[u16], stack: &mut [u8]) -> Replayed
+pub fn replay_steps(m: &Lent, steps: &[u16], stack: &mut [u8]) -> Result<(), ReplayError>
     ensures { Replays (model_in m.now) steps.now stack.old result stack.new }
 {
     if !is_valid(m) {
-        return Replayed::Invalid;
+        return Err(ReplayError::Invalid);
     }
     if stack.len() <= steps.len() {
-        return Replayed::Short;
+        return Err(ReplayError::Short);
     }
     let answer = run(m, steps, stack);
     clear(stack, steps.len() + 1);

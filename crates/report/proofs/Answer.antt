@@ -28,12 +28,14 @@ use Rattle.model.specs.Valid.{valid}
 use Rattle.model.proofs.Valid.{valid_sizes, product_in_lem}
 use Rattle.fitting.proofs.Tested.{ample, tested_well}
 use Rattle.decide.specs.Decided.{within, decision, heads_left, triples_left}
-use Rattle.trace.specs.declared.Traced.{Traced}
-use Rattle.trace.specs.declared.Traced.TheVariants.{Found, Safe, Cut}
-use Rattle.trace.specs.Outcome.{Trace, traced, meaning, traced_by, steps_by, Outcome}
+use Rattle.std.specs.Prelude.{Ok, Err}
+use Rattle.fitting.specs.declared.Unfit.TheVariants.{Invalid, Short}
+use Rattle.decide.specs.declared.DecideError.{DecideError}
+use Rattle.decide.specs.declared.DecideError.TheVariants.{Refused, Spent}
+use Rattle.trace.specs.declared.TraceError.TheVariants.{Undecided, Safe, Cut}
+use Rattle.trace.specs.Outcome.{TraceAnswer, Trace, traced, meaning, traced_by, steps_by, Outcome}
 use Rattle.text.specs.Put.{place_in, Put}
 use Rattle.text.proofs.Puts.{as_put}
-use Rattle.printing.specs.declared.Written.{Written}
 use Rattle.printing.specs.Listing.{listing_bytes}
 use Rattle.printing.specs.Writing as printing
 use Rattle.printing.specs.Writing.{Listed, bytes, cut, bytes_of, fitted, Writes}
@@ -52,7 +54,7 @@ place_of (answered cut) room = room + 1
 place_of (refused n vs) room = 0
 
 -- of a valid model, and from arrays of its sizes, a listing is put
-module _ (m : Model) (rounds : ℕ) {hs ts out after : List ℕ} {w : Written} (t : Fits m (length hs) (length ts)) (x : Writes m rounds hs ts out after w) where
+module _ (m : Model) (rounds : ℕ) {hs ts out after : List ℕ} {w : printing.WriteAnswer} (t : Fits m (length hs) (length ts)) (x : Writes m rounds hs ts out after w) where
   as_fitted : printing.meaning w ≡ answered (fitted (length (bytes_of m rounds hs ts)) (length out))
   as_fitted = x.answer ∙ tested_well m (length hs) (length ts) t _ _ _
 
@@ -67,7 +69,7 @@ module _ (m : Model) (rounds : ℕ) {hs ts out after : List ℕ} {w : Written} (
       go true e = omega (arith, ltb-true (length out) (length (bytes_of m rounds hs ts)) e, ap length as_set, length-sets out 0 (bytes_of m rounds hs ts))
       go false e = omega (arith, ltb-false (length out) (length (bytes_of m rounds hs ts)) e)
 
-  pub listing_put : {w' : Written} → w ≡ w' → Put out after 0 (place_of (printing.meaning w') (length after)) (bytes_of m rounds hs ts)
+  pub listing_put : {w' : printing.WriteAnswer} → w ≡ w' → Put out after 0 (place_of (printing.meaning w') (length after)) (bytes_of m rounds hs ts)
   listing_put e = record { place = ap (λ w. place_of (printing.meaning w) (length after)) (sym e) ∙ same_place; cells = as_set }
 
 -- the budget, as it is multiplied out
@@ -150,7 +152,7 @@ module _ (m : Model) (rm : List ℕ) {rm' : List ℕ} (roomy : length rm ≡ roo
       go false true q e = let z : ◌≡◌ {A = ℕ} 0 1 = cc in absurd (omega arith)
 
 -- the call's outcome, with arrays of the model's sizes and this budget
-module _ (m : Model) {r : Traced} {hs' ts' rm' : List ℕ} (A : Told m r hs' ts' rm') where
+module _ (m : Model) {r : TraceAnswer} {hs' ts' rm' : List ℕ} (A : Told m r hs' ts' rm') where
   ok : T (valid m)
   ok = A.fits.valid_model
 
@@ -174,14 +176,19 @@ module _ (m : Model) {r : Traced} {hs' ts' rm' : List ℕ} (A : Told m r hs' ts'
   unfolding model_output
   output_is = sym (ap (answer_bytes m) the_verdict.1)
 
-  pub never : {o : List ℕ} {next : ℕ} (number : ℕ) (values : List ℕ) → number < 9 → meaning r ≡ refused number values → Put o o 0 next (model_output m)
-  never number values l k = absurd (never_refused m the_verdict.0 number values l (sym k ∙ means))
+  never : (number : ℕ) (values : List ℕ) → number < 9 → meaning r ≡ refused number values → ⊥
+  never number values l k = never_refused m the_verdict.0 number values l (sym k ∙ means)
+
+  pub is_decided : (e : DecideError) → r ≡ Err (Undecided e) → ⊥
+  is_decided (Refused Invalid) q = never 6 _ (omega arith) (ap meaning q)
+  is_decided (Refused Short) q = never 7 _ (omega arith) (ap meaning q)
+  is_decided (Spent b) q = never 8 _ (omega arith) (ap meaning q)
 
   module _ (n k : ℕ) {o p : List ℕ} {next : ℕ} where
-    pub found_put : r ≡ Found n k → Put o p 0 next (violation_bytes m true n rm' (shown (length rm') k)) → Put o p 0 next (model_output m)
+    pub found_put : r ≡ Ok (record { rounds = n; steps = k }) → Put o p 0 next (violation_bytes m true n rm' (shown (length rm') k)) → Put o p 0 next (model_output m)
     found_put q = as_put (violation_bytes_lem m A.rm A.roomy true the_verdict.0 n k (sym (ap meaning q) ∙ means) steps_are ∙ output_is)
 
-    pub cut_put : r ≡ Cut n k → Put o p 0 next (violation_bytes m false n rm' (shown (length rm') k)) → Put o p 0 next (model_output m)
+    pub cut_put : r ≡ Err (Cut n k) → Put o p 0 next (violation_bytes m false n rm' (shown (length rm') k)) → Put o p 0 next (model_output m)
     cut_put q = as_put (violation_bytes_lem m A.rm A.roomy false the_verdict.0 n k (sym (ap meaning q) ∙ means) steps_are ∙ output_is)
 
   heads_are : hs' ≡ heads_of m.symbols m.states (left (product_of m) b) ++ drop (head_count m) A.hs
@@ -200,7 +207,7 @@ module _ (m : Model) {r : Traced} {hs' ts' rm' : List ℕ} (A : Told m r hs' ts'
     triples_there = rw triples_are (omega (arith, length-append (triples_of m.symbols m.states (left (product_of m) b)) (drop (triple_count m) A.ts), length_triples m.symbols m.states (left (product_of m) b)));
   }
 
-  module _ (n : ℕ) (q : r ≡ Safe n) where
+  module _ (n : ℕ) (q : r ≡ Err (Safe n)) where
     is_safe : the_verdict.0 ≡ safe n
     is_safe = safe_bytes m the_verdict.0 n (sym (ap meaning q) ∙ means)
 
@@ -220,7 +227,7 @@ module _ (m : Model) {r : Traced} {hs' ts' rm' : List ℕ} (A : Told m r hs' ts'
     safe_put = as_put safe_output
 
 -- what the call told, in the code's arrays
-pub told : (m : Model) (v : T (valid m)) {b : ℕ} {hs ts rm hs' ts' rm' : List ℕ} {r : Traced} → length hs ≡ 256 → length ts ≡ 2048 → length rm ≡ room → b ≡ bound (product_of m)
+pub told : (m : Model) (v : T (valid m)) {b : ℕ} {hs ts rm hs' ts' rm' : List ℕ} {r : TraceAnswer} → length hs ≡ 256 → length ts ≡ 2048 → length rm ≡ room → b ≡ bound (product_of m)
     → Outcome m b hs ts rm r hs' ts' rm' → Told m r hs' ts' rm'
 told m v {b} {hs} {ts} {rm} {hs'} {ts'} {rm'} {r} h t k e o = record {
   hs = hs;

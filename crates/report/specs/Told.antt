@@ -4,12 +4,12 @@ use Rattle.product.specs.Verdict.{bound}
 use Rattle.model.specs.declared.Model.{Model}
 use Rattle.model.specs.Model.{product_of}
 use Rattle.fitting.specs.Fits.{Fits}
-use Rattle.trace.specs.declared.Traced.{Traced}
+use Rattle.trace.specs.Outcome.{TraceAnswer}
 use Rattle.trace.specs.Outcome.{Outcome}
 use Rattle.violation.specs.Bytes.{room}
 
 -- a valid model was traced with the budget that is always enough, and the arrays, which had room for its table and for a room of steps, are now these
-pub record Told (m : Model) (told : Traced) (heads triples steps : List ℕ) : Type 0 where
+pub record Told (m : Model) (told : TraceAnswer) (heads triples steps : List ℕ) : Type 0 where
   pub hs : List ℕ
   pub ts : List ℕ
   pub rm : List ℕ

@@ -13,7 +13,7 @@ ghost use Rattle.report.specs.Told.{Told};
 
 use lent::Lent;
 use printing::Written;
-use trace::Traced;
+use trace::{TraceError, Traced};
 use violation::{ROOM, put_violation};
 
 // Puts the listing of a safe table. The record is valid and the arrays are long enough, so that it is never refused.
@@ -23,10 +23,9 @@ fn put_safe(out: &mut [u8], m: &Lent, rounds: u16, heads: &[u16], triples: &[u16
 {
     let w = printing::write_listing(m, rounds, heads, triples, out);
     match w {
-        Written::Bytes(n) => n,
-        Written::Cut => out.len() + 1,
-        Written::Invalid => 0,
-        Written::Short => 0,
+        Ok(Written::Bytes(n)) => n,
+        Ok(Written::Cut) => out.len() + 1,
+        Err(_) => 0,
     }
 }
 
@@ -35,7 +34,7 @@ fn put_safe(out: &mut [u8], m: &Lent, rounds: u16, heads: &[u16], triples: &[u16
 fn put_told(
     out: &mut [u8],
     m: &Lent,
-    told: Traced,
+    told: Result<Traced, TraceError>,
     heads: &[u16],
     triples: &[u16],
     steps: &[u16],
@@ -44,12 +43,10 @@ fn put_told(
     ensures { Put out.old out.new 0 result (model_output (model_in m.now)) }
 {
     match told {
-        Traced::Found { rounds, steps: n } => put_violation(out, m, true, rounds, steps, n),
-        Traced::Cut { rounds, room } => put_violation(out, m, false, rounds, steps, room),
-        Traced::Safe(n) => put_safe(out, m, n, heads, triples),
-        Traced::Invalid => 0,
-        Traced::Short => 0,
-        Traced::Spent(_) => 0,
+        Ok(t) => put_violation(out, m, true, t.rounds, steps, t.steps),
+        Err(TraceError::Cut { rounds, room }) => put_violation(out, m, false, rounds, steps, room),
+        Err(TraceError::Safe(n)) => put_safe(out, m, n, heads, triples),
+        Err(TraceError::Undecided(_)) => unreachable!(),
     }
 }
 
@@ -82,9 +79,8 @@ pub fn check_text(text: &[u8], out: &mut [u8]) -> usize
     ensures { Put out.old out.new 0 result (check_output text.now) }
 {
     let mut m = lent::blank();
-    let seen = refusal::read_or_refuse(text, &mut m, out);
-    if seen.accepted {
-        return put_model(out, &m);
+    match refusal::read_or_refuse(text, &mut m, out) {
+        Ok(()) => put_model(out, &m),
+        Err(end) => end,
     }
-    seen.end
 }

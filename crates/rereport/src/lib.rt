@@ -14,8 +14,8 @@ ghost use Rattle.rereport.specs.Output.{check_bytes, listing_bytes, listing_outp
 ghost use Rattle.rereport.specs.Heard.{Heard};
 
 use lent::Lent;
-use listing::ListingRead;
-use recheck::Recheck;
+use listing::ListingError;
+use recheck::CheckError;
 
 // Puts the line of a table that is not accepted.
 fn put_open(out: &mut [u8], reason: u16, rule: u16, by: u16) -> usize
@@ -32,12 +32,11 @@ fn put_checked<'a>(out: &mut [u8], m: &'a Lent, heads: &'a [u16], triples: &'a [
 {
     let c = recheck::check_table(m, heads, triples);
     match c {
-        Recheck::Accepted => print::put_all(out, 0, b"accepted\n"),
-        Recheck::NoStart => put_open(out, 1, 0, 0),
-        Recheck::Violating => put_open(out, 2, 0, 0),
-        Recheck::Open { rule, by } => put_open(out, 3, rule as u16, by as u16),
-        Recheck::Invalid => 0,
-        Recheck::Short => 0,
+        Ok(()) => print::put_all(out, 0, b"accepted\n"),
+        Err(CheckError::NoStart) => put_open(out, 1, 0, 0),
+        Err(CheckError::Violating) => put_open(out, 2, 0, 0),
+        Err(CheckError::Open { rule, by }) => put_open(out, 3, rule as u16, by as u16),
+        Err(CheckError::Refused(_)) => unreachable!(),
     }
 }
 
@@ -45,7 +44,7 @@ fn put_checked<'a>(out: &mut [u8], m: &'a Lent, heads: &'a [u16], triples: &'a [
 fn put_heard<'a>(
     out: &mut [u8],
     m: &'a Lent,
-    heard: ListingRead,
+    heard: Result<u16, ListingError>,
     heads: &'a [u16],
     triples: &'a [u16],
 ) -> usize
@@ -53,13 +52,11 @@ fn put_heard<'a>(
     ensures { Put out.old out.new 0 result (listing_bytes (meaning heard) (recheck (model_in m.now) heads.now triples.now)) }
 {
     match heard {
-        ListingRead::Accepted(_) => put_checked(out, m, heads, triples),
-        ListingRead::TooLong => refusal::put_refused(out, 1, 0),
-        ListingRead::Malformed(line) => refusal::put_refused(out, 2, line as u16),
-        ListingRead::Misplaced(line) => refusal::put_refused(out, 3, line as u16),
-        ListingRead::OutOfRange(line) => refusal::put_refused(out, 4, line as u16),
-        ListingRead::Invalid => 0,
-        ListingRead::Short => 0,
+        Ok(_) => put_checked(out, m, heads, triples),
+        Err(ListingError::Text(e)) => {
+            refusal::put_refused(out, u16::from(e.number()), e.line() as u16)
+        }
+        Err(ListingError::Refused(_)) => unreachable!(),
     }
 }
 
@@ -80,9 +77,8 @@ pub fn recheck_text(text: &[u8], out: &mut [u8]) -> usize
 {
     let at = splitter::listing_at(text);
     let mut m = lent::blank();
-    let seen = refusal::read_or_refuse(&text[..at], &mut m, out);
-    if seen.accepted {
-        return put_listing(out, &m, &text[at..]);
+    match refusal::read_or_refuse(&text[..at], &mut m, out) {
+        Ok(()) => put_listing(out, &m, &text[at..]),
+        Err(end) => end,
     }
-    seen.end
 }

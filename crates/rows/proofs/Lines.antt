@@ -1,5 +1,6 @@
 -- How the reading of lines goes on, line by line. Assumes nothing.
 use mathlib.Core.Path.{◌≡◌, refl, sym, ap, ◌∙◌}
+use mathlib.Core.Bool.{false}
 use mathlib.Core.List.{List, [], ◌∷◌}
 use Prim.Native.Nat.{ℕ, ◌+◌, ◌<◌, ◌≤◌}
 use native.Mathlib.Omega.{arith}
@@ -8,7 +9,8 @@ use borrow.Author.Tests.{eq-eqb, ne_eqb, lt-ltb, le-ltb}
 use Rattle.text.specs.Split.{first, split}
 use Rattle.text.proofs.Split.{after, after_shorter, later_after, no_later, whole_piece}
 use Rattle.listingline.specs.Line.{line_of, line_at}
-use Rattle.listingline.specs.declared.LineRead.{LineRead}
+use Rattle.line.specs.declared.words.LineRead.{LineRead}
+use Rattle.listingline.specs.declared.Word.{Word}
 use Rattle.table.specs.declared.Size.{Size}
 use Rattle.rows.specs.declared.Tally.{Tally}
 use Rattle.rows.specs.State.{State, Step, Ended, whole, nothing, before, Counted}
@@ -43,13 +45,14 @@ module _ {z : Size} {text : List ℕ} {s₀ s : State} {l : List ℕ} {n : ℕ} 
   last : {e : ℕ} → e ≡ length (first 10 l) → length l ≤ e → read_from z n s l [] ≡ read_lines z 1 s₀ text
   last f h = ap (λ y. read_from z n s y []) (sym (whole_piece 10 l f h)) ∙ ap (read_from z n s (first 10 l)) (sym (no_later 10 l f h)) ∙ i.left
 
-  module _ {x : LineRead} (p : x ≡ line_at l) where
+  module _ {x : LineRead Word} (p : x ≡ line_at l) where
     found : x.end ≡ length (first 10 l)
-    found = ap (λ (y : LineRead). y.end) p
+    found = ap (λ (y : LineRead Word). y.end) p
 
     module _ (h : x.end < length l) {t : Step} (q : t ≡ step_of z s x.line) where
       is : t ≡ step_of z s (line_of (split 9 (first 10 l)))
-      is = q ∙ ap (λ (y : LineRead). step_of z s y.line) p
+      unfolding line_of
+      is = q ∙ ap (λ (y : LineRead Word). step_of z s y.line) p
 
       lines : read_lines z n s l ≡ read_from z n s (first 10 l) (split 10 (after x.end l))
       lines = ap (read_from z n s (first 10 l)) (later_after 10 l found h)
@@ -87,6 +90,10 @@ module _ {z : Size} {text : List ℕ} {s₀ s : State} {l : List ℕ} {n : ℕ} 
 
 pub counted : {z : Size} {text : List ℕ} {s₀ : State} {t : Tally} {hs ts l : List ℕ} {n : ℕ} → Turn z text s₀ (whole t hs ts) l n → length text ≤ 45056 → Counted t
 counted i k = let r = i.room in let a = i.heads in let b = i.triples in record { heads = omega arith; triples = omega arith }
+
+-- a tally that was not begun
+pub is_nothing : (t : Tally) → (t.begun ≡ false) × ((t.rounds ≡ 0) × ((t.headcount ≡ 0) × ((t.triplecount ≡ 0) × ((t.heads ≡ 0) × (t.triples ≡ 0))))) → t ≡ nothing
+is_nothing t (a, (b, (c, (d, (e, f))))) = rw (a, b, c, d, e, f)
 
 -- where the loop begins
 pub first_turn : (z : Size) (hs ts text : List ℕ) {t : Tally} → t ≡ nothing → Turn z text (before hs ts) (whole t hs ts) text 1

@@ -13,11 +13,20 @@ use Rattle.product.specs.Table.{absent}
 use Rattle.table.specs.declared.Size.{Size}
 use Rattle.ranking.specs.Rank.{largest, fault_of, counted, head_put, triple_put}
 use Rattle.listingline.specs.Line.{line_of}
-use Rattle.listingline.specs.declared.Line.{Line}
+use Rattle.line.specs.declared.words.Line as words
 use Rattle.listingline.specs.declared.Word.{Word}
 use Rattle.listingline.specs.declared.Word.TheVariants.{Safe, Head, Erase, Unknown}
+use Rattle.line.specs.declared.fault.TextError.{TextError}
+use Rattle.line.specs.declared.fault.TextError.TheVariants.{TooLong, Line}
+use Rattle.line.specs.Fault.{text_number}
+use Rattle.ranking.proofs.Faults.{some_fault}
 use Rattle.rows.specs.State.{State, Ended}
 use Rattle.rows.specs.Lines.{refuse, goes, with_header, heads_by, triples_by, safe_step, unless, head_step, triple_step, step_by, step_of, ends, agreement, finished, read_from, longest, read_text}
+
+-- a text that is refused has a number
+pub some_number : (e : TextError) → text_number e ≡ 0 → ⊥
+some_number TooLong n = omega arith
+some_number (Line fault line) n = some_fault fault n
 
 -- the number of a line's refusal, or 0
 record OfLine (n : ℕ) : Type 0 where
@@ -36,16 +45,16 @@ three = record { small = omega arith; not_one = λ e. omega arith }
 four : OfLine 4
 four = record { small = omega arith; not_one = λ e. omega arith }
 
-fault_of_lem : (begun held : ℕ) (inside : Bool) (rank : ℕ) → OfLine (fault_of begun held inside rank)
+fault_of_lem : (begun : Bool) (held : ℕ) (inside : Bool) (rank : ℕ) → OfLine (fault_of begun held inside rank)
 unfolding fault_of
-fault_of_lem begun held inside rank = go (eqb begun 0) (eqb held absent) inside (ltb largest rank)
+fault_of_lem begun held inside rank = go begun (eqb held absent) inside (ltb largest rank)
   where
-    go : (a b c d : Bool) → OfLine (pick a 3 (pick b (pick c (pick d 4 0) 4) 3))
-    go true b c d = three
-    go false false c d = three
-    go false true false d = four
-    go false true true true = four
-    go false true true false = none
+    go : (a b c d : Bool) → OfLine (pick a (pick b (pick c (pick d 4 0) 4) 3) 3)
+    go false b c d = three
+    go true false c d = three
+    go true true false d = four
+    go true true true true = four
+    go true true true false = none
 
 counted_of : (count takes : ℕ) {fault : ℕ} → OfLine fault → OfLine (counted count takes fault)
 counted_of count takes {fault} h = go (eqb count takes)
@@ -63,13 +72,13 @@ unless_of {fault} s next h = go (eqb fault 0)
 
 safe_of : (s : State) (n : Numbers) → OfLine (safe_step s n).refusal
 unfolding safe_step
-safe_of s n = go (eqb n.count 3) (eqb s.begun 0) (ltb largest (nth n 0))
+safe_of s n = go (eqb n.count 3) s.begun (ltb largest (nth n 0))
   where
-    go : (a b c : Bool) → OfLine (pick a (pick b (pick c (refuse 4 s) (goes (with_header s (nth n 0) (nth n 1) (nth n 2)))) (refuse 3 s)) (refuse 2 s)).refusal
+    go : (a b c : Bool) → OfLine (pick a (pick b (refuse 3 s) (pick c (refuse 4 s) (goes (with_header s (nth n 0) (nth n 1) (nth n 2))))) (refuse 2 s)).refusal
     go false b c = two
-    go true false c = three
-    go true true true = four
-    go true true false = none
+    go true true c = three
+    go true false true = four
+    go true false false = none
 
 head_of : (z : Size) (s : State) (n : Numbers) → OfLine (head_step z s n).refusal
 unfolding head_step
@@ -79,7 +88,7 @@ triple_of : (z : Size) (s : State) (n : Numbers) → OfLine (triple_step z s n).
 unfolding triple_step
 triple_of z s n = unless_of s (triples_by s (triple_put z s.triplecells n)) (counted_of n.count 4 (fault_of_lem s.begun _ _ (nth n 3)))
 
-step_of_lem : (z : Size) (s : State) (l : Line) → OfLine (step_of z s l).refusal
+step_of_lem : (z : Size) (s : State) (l : words.Line Word) → OfLine (step_of z s l).refusal
 unfolding step_of
 step_of_lem z s l = by_word l.word l.numbers
   where
@@ -91,13 +100,13 @@ step_of_lem z s l = by_word l.word l.numbers
 
 finished_of : (s : State) → OfLine (finished s).refusal
 unfolding agreement
-finished_of s = go (eqb s.begun 0) (eqb s.heads s.headcount) (eqb s.triples s.triplecount)
+finished_of s = go s.begun (eqb s.heads s.headcount) (eqb s.triples s.triplecount)
   where
-    go : (a b c : Bool) → OfLine (pick a 3 (pick b (pick c 0 3) 3))
-    go true b c = three
-    go false false c = three
-    go false true true = none
-    go false true false = three
+    go : (a b c : Bool) → OfLine (pick a (pick b (pick c 0 3) 3) 3)
+    go false b c = three
+    go true false c = three
+    go true true true = none
+    go true true false = three
 
 lines_of : (z : Size) (n : ℕ) (s : State) (l : List ℕ) (ls : List (List ℕ)) → OfLine (read_from z n s l ls).refusal
 unfolding read_from

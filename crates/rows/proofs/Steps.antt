@@ -1,6 +1,7 @@
 -- The steps of a reading, case by case. Assumes nothing.
 use mathlib.Core.Path.{◌≡◌, refl, ap, ◌∙◌}
 use mathlib.Core.Bool.{Bool, true, false}
+use mir.Val.{bool_byte}
 use mathlib.Core.List.{List}
 use Prim.Native.Nat.{ℕ, ◌+◌, ◌<◌, ◌≤◌}
 use native.Mathlib.Omega.{arith}
@@ -9,14 +10,18 @@ use borrow.Author.Tests.{lt-ltb, le-ltb, eq-eqb, ne_eqb}
 use Rattle.text.specs.Split.{pick}
 use Rattle.numbers.specs.Number.{nth}
 use Rattle.numbers.specs.declared.Numbers.{Numbers}
+use Rattle.std.specs.Prelude.{Result, Ok, Err}
+use Rattle.std.specs.Result.{IsErrAnd}
+use Rattle.line.specs.declared.fault.Fault.{Fault}
+use Rattle.line.specs.Fault.{number_of}
 use Rattle.table.specs.declared.Size.{Size}
 use Rattle.ranking.specs.Rank.{largest, head_fault, head_put, triple_fault, triple_put, Ranked}
-use Rattle.ranking.proofs.Faults.{ranked_cells, unranked_cells}
+use Rattle.ranking.proofs.Faults.{some_fault, ranked_cells, unranked_cells}
 use Rattle.listingline.specs.declared.Word.{Word}
 use Rattle.listingline.specs.declared.Word.TheVariants.{Safe, Head, Erase, Unknown}
-use Rattle.listingline.specs.declared.Line.{Line}
+use Rattle.line.specs.declared.words.Line.{Line}
 use Rattle.rows.specs.declared.Tally.{Tally}
-use Rattle.rows.specs.State.{State, Step, whole}
+use Rattle.rows.specs.State.{State, Step, whole, stepped}
 use Rattle.rows.specs.Lines.{refuse, goes, with_header, heads_by, triples_by, safe_step, unless, head_step, triple_step, step_by, step_of}
 
 -- the header
@@ -26,17 +31,17 @@ module _ (s : State) (n : Numbers) where
   safe_malformed c = rw (ne_eqb _ _ c)
 
   module _ (c : n.count ≡ 3) where
-    pub safe_twice : (s.begun ≡ 0 → ⊥) → refuse 3 s ≡ safe_step s n
+    pub safe_twice : s.begun ≡ true → refuse 3 s ≡ safe_step s n
     unfolding safe_step
-    safe_twice h = rw (eq-eqb _ _ c, ne_eqb _ _ h)
+    safe_twice h = rw (eq-eqb _ _ c, h)
 
-    pub safe_large : s.begun ≡ 0 → largest < nth n 0 → refuse 4 s ≡ safe_step s n
+    pub safe_large : s.begun ≡ false → largest < nth n 0 → refuse 4 s ≡ safe_step s n
     unfolding safe_step
-    safe_large h l = rw (eq-eqb _ _ c, eq-eqb _ _ h, lt-ltb _ _ l)
+    safe_large h l = rw (eq-eqb _ _ c, h, lt-ltb _ _ l)
 
-    pub safe_taken : s.begun ≡ 0 → nth n 0 ≤ largest → goes (with_header s (nth n 0) (nth n 1) (nth n 2)) ≡ safe_step s n
+    pub safe_taken : s.begun ≡ false → nth n 0 ≤ largest → goes (with_header s (nth n 0) (nth n 1) (nth n 2)) ≡ safe_step s n
     unfolding safe_step
-    safe_taken h l = rw (eq-eqb _ _ c, eq-eqb _ _ h, le-ltb _ _ l)
+    safe_taken h l = rw (eq-eqb _ _ c, h, le-ltb _ _ l)
 
 -- a fact's line by its fault
 module _ {f g : ℕ} (e : f ≡ g) (s next : State) where
@@ -64,20 +69,39 @@ module _ (z : Size) (s : State) (n : Numbers) {f : ℕ} (e : f ≡ triple_fault 
   unfolding triple_step
   triple_taken h k = ap (λ l. goes (triples_by s l)) k ∙ step_taken e s (triples_by s (triple_put z s.triplecells n)) h
 
--- by what the call that ranks the fact leaves in the lent cells
-module _ (z : Size) (t : Tally) (n : Numbers) {cells after : List ℕ} {f : ℕ} (k : Ranked cells after (head_fault z t.begun cells n) (head_put z cells n) f) where
-  pub head_unranked : (f ≡ 0 → ⊥) → (ts : List ℕ) → refuse f (whole t after ts) ≡ head_step z (whole t cells ts) n
-  head_unranked h ts = ap (λ l. refuse f (whole t l ts)) (unranked_cells k h) ∙ head_refused z (whole t cells ts) n k.answers h
+-- by what the call that ranks the fact answers, and leaves in the lent cells
+-- whether a listing was begun, as a number and back
+pub begun_is : (b : Bool) {n : ℕ} → n ≡ bool_byte b → ltb 0 n ≡ b
+begun_is true e = rw e refl
+begun_is false e = rw e refl
 
-  pub head_ranked : f ≡ 0 → (ts : List ℕ) → goes (heads_by (whole t cells ts) after) ≡ head_step z (whole t cells ts) n
-  head_ranked h ts = head_taken z (whole t cells ts) n k.answers h (ranked_cells k h)
+module _ (z : Size) (t : Tally) (n : Numbers) {cells after : List ℕ} where
+  head_unranked : (fault : Fault) → Ranked cells after (head_fault z t.begun cells n) (head_put z cells n) (Err fault) → (ts : List ℕ) → refuse (number_of fault) (whole t after ts) ≡ head_step z (whole t cells ts) n
+  head_unranked fault k ts =
+      ap (λ l. refuse (number_of fault) (whole t l ts)) (unranked_cells k (some_fault fault)) ∙ head_refused z (whole t cells ts) n k.answers (some_fault fault)
 
-module _ (z : Size) (t : Tally) (n : Numbers) {cells after : List ℕ} {f : ℕ} (k : Ranked cells after (triple_fault z t.begun cells n) (triple_put z cells n) f) where
-  pub triple_unranked : (f ≡ 0 → ⊥) → (hs : List ℕ) → refuse f (whole t hs after) ≡ triple_step z (whole t hs cells) n
-  triple_unranked h hs = ap (λ l. refuse f (whole t hs l)) (unranked_cells k h) ∙ triple_refused z (whole t hs cells) n k.answers h
+  -- as `?` passes it on
+  pub head_passed : (fault : Fault) → Ranked cells after (head_fault z t.begun cells n) (head_put z cells n) (Err fault) → (r : Result (Unit {0}) Fault) → IsErrAnd r (λ e. e ≡ fault)
+      → (ts : List ℕ) → stepped r t after ts ≡ head_step z (whole t cells ts) n
+  head_passed fault k (Err e) i ts = rw i (head_unranked fault k ts)
+  head_passed fault k (Ok x) i ts = absurd i
 
-  pub triple_ranked : f ≡ 0 → (hs : List ℕ) → goes (triples_by (whole t hs cells) after) ≡ triple_step z (whole t hs cells) n
-  triple_ranked h hs = triple_taken z (whole t hs cells) n k.answers h (ranked_cells k h)
+  pub head_ranked : {u : Unit {0}} → Ranked cells after (head_fault z t.begun cells n) (head_put z cells n) (Ok u) → (ts : List ℕ) → goes (heads_by (whole t cells ts) after) ≡ head_step z (whole t cells ts) n
+  head_ranked k ts = head_taken z (whole t cells ts) n k.answers refl (ranked_cells k refl)
+
+module _ (z : Size) (t : Tally) (n : Numbers) {cells after : List ℕ} where
+  triple_unranked : (fault : Fault) → Ranked cells after (triple_fault z t.begun cells n) (triple_put z cells n) (Err fault) → (hs : List ℕ) → refuse (number_of fault) (whole t hs after) ≡ triple_step z (whole t hs cells) n
+  triple_unranked fault k hs =
+      ap (λ l. refuse (number_of fault) (whole t hs l)) (unranked_cells k (some_fault fault)) ∙ triple_refused z (whole t hs cells) n k.answers (some_fault fault)
+
+  -- as `?` passes it on
+  pub triple_passed : (fault : Fault) → Ranked cells after (triple_fault z t.begun cells n) (triple_put z cells n) (Err fault) → (r : Result (Unit {0}) Fault) → IsErrAnd r (λ e. e ≡ fault)
+      → (hs : List ℕ) → stepped r t hs after ≡ triple_step z (whole t hs cells) n
+  triple_passed fault k (Err e) i hs = rw i (triple_unranked fault k hs)
+  triple_passed fault k (Ok x) i hs = absurd i
+
+  pub triple_ranked : {u : Unit {0}} → Ranked cells after (triple_fault z t.begun cells n) (triple_put z cells n) (Ok u) → (hs : List ℕ) → goes (triples_by (whole t hs cells) after) ≡ triple_step z (whole t hs cells) n
+  triple_ranked k hs = triple_taken z (whole t hs cells) n k.answers refl (ranked_cells k refl)
 
 -- a line counts once at the most, and one that is refused changes nothing
 pub record Fair (s : State) (t : Step) : Type 0 where
@@ -103,11 +127,10 @@ unfolding safe_step
 safe_fair s n =
     let header : State = with_header s (nth n 0) (nth n 1) (nth n 2) in
     let large : Step = pick (ltb largest (nth n 0)) (refuse 4 s) (goes header) in
-    let once : Step = pick (eqb s.begun 0) large (refuse 3 s) in
+    let once : Step = pick s.begun (refuse 3 s) large in
     either s (eqb n.count 3) once (refuse 2 s)
-    (either s (eqb s.begun 0) large (refuse 3 s)
-    (either s (ltb largest (nth n 0)) (refuse 4 s) (goes header) (refused_fair 4 s) (goes_fair s header (omega arith) (omega arith)))
-    (refused_fair 3 s))
+    (either s s.begun (refuse 3 s) large (refused_fair 3 s)
+    (either s (ltb largest (nth n 0)) (refuse 4 s) (goes header) (refused_fair 4 s) (goes_fair s header (omega arith) (omega arith))))
     (refused_fair 2 s)
 
 head_fair : (z : Size) (s : State) (n : Numbers) → Fair s (head_step z s n)
@@ -124,6 +147,6 @@ by_fair z s Head n = head_fair z s n
 by_fair z s Erase n = triple_fair z s n
 by_fair z s Unknown n = refused_fair 2 s
 
-pub step_fair : (z : Size) (s : State) (l : Line) → Fair s (step_of z s l)
+pub step_fair : (z : Size) (s : State) (l : Line Word) → Fair s (step_of z s l)
 unfolding step_of
 step_fair z s l = by_fair z s l.word l.numbers

@@ -1,5 +1,5 @@
 -- What the lines of a listing do, one after another. Assumes nothing.
-use Rattle.std.specs.Prelude.{List, [], ◌∷◌, ℕ, ◌+◌, eqb, ltb, length, replicate}
+use Rattle.std.specs.Prelude.{Bool, true, List, [], ◌∷◌, ℕ, ◌+◌, eqb, ltb, length, replicate}
 use Rattle.text.specs.Split.{pick, first, later, split}
 use Rattle.product.specs.Table.{absent}
 use Rattle.table.specs.declared.Size.{Size}
@@ -7,7 +7,7 @@ use Rattle.ranking.specs.Rank.{largest, head_fault, head_put, triple_fault, trip
 use Rattle.numbers.specs.Number.{nth}
 use Rattle.numbers.specs.declared.Numbers.{Numbers}
 use Rattle.listingline.specs.Line.{line_of}
-use Rattle.listingline.specs.declared.Line.{Line}
+use Rattle.line.specs.declared.words.Line.{Line}
 use Rattle.listingline.specs.declared.Word.{Word}
 use Rattle.listingline.specs.declared.Word.TheVariants.{Safe, Head, Erase, Unknown}
 use Rattle.rows.specs.State.{State, Step, Ended, before}
@@ -26,7 +26,7 @@ goes s = record { refusal = 0; state = s }
 -- the state with its header; with one head or one triple more
 abbrev pub with_header : State → (rounds heads triples : ℕ) → State
 with_header s a b c = record {
-  begun = 1;
+  begun = true;
   rounds = a;
   headcount = b;
   triplecount = c;
@@ -64,9 +64,8 @@ triples_by s cells = record {
 unfoldable pub safe_step : State → Numbers → Step
 safe_step s n =
     pick (eqb n.count 3)
-    (pick (eqb s.begun 0)
-    (pick (ltb largest (nth n 0)) (refuse 4 s) (goes (with_header s (nth n 0) (nth n 1) (nth n 2))))
-    (refuse 3 s))
+    (pick s.begun (refuse 3 s)
+    (pick (ltb largest (nth n 0)) (refuse 4 s) (goes (with_header s (nth n 0) (nth n 1) (nth n 2)))))
     (refuse 2 s)
 
 -- by the number of the fault
@@ -88,7 +87,7 @@ step_by z s Head n = head_step z s n
 step_by z s Erase n = triple_step z s n
 step_by z s Unknown n = refuse 2 s
 
-unfoldable pub step_of : Size → State → Line → Step
+unfoldable pub step_of : Size → State → Line Word → Step
 step_of z s l = step_by z s l.word l.numbers
 
 -- the reading has ended: refused with a number and a line, or 0 and 0
@@ -96,8 +95,8 @@ abbrev pub ends : ℕ → ℕ → State → Ended
 ends n line s = record { refusal = n; line = line; state = s }
 
 -- there was a header, and its two counts are the numbers of lines
-unfoldable pub agreement : (begun heads headcount triples triplecount : ℕ) → ℕ
-agreement begun heads headcount triples triplecount = pick (eqb begun 0) 3 (pick (eqb heads headcount) (pick (eqb triples triplecount) 0 3) 3)
+unfoldable pub agreement : (begun : Bool) → (heads headcount triples triplecount : ℕ) → ℕ
+agreement begun heads headcount triples triplecount = pick begun (pick (eqb heads headcount) (pick (eqb triples triplecount) 0 3) 3) 3
 
 -- after the last line
 abbrev pub finished : State → Ended

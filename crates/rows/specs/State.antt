@@ -1,12 +1,13 @@
--- What is read so far of a listing: the tally, which goes by value, and the ranks, which are in two lent arrays. Assumes nothing.
-use Rattle.std.specs.Prelude.{List, ℕ, ◌≤◌}
+-- What is read so far of a listing: the tally and the ranks, all lent. Assumes nothing.
+use Rattle.std.specs.Prelude.{Bool, false, List, ℕ, ◌≤◌, Result, Ok, Err}
+use Rattle.line.specs.declared.fault.Fault.{Fault}
+use Rattle.line.specs.declared.fault.TextError.{TextError}
+use Rattle.line.specs.Fault.{number_in, text_number, text_line}
 use Rattle.rows.specs.declared.Tally.{Tally}
-use Rattle.rows.specs.declared.Tallied.{Tallied}
-use Rattle.rows.specs.declared.End.{End}
 
 -- the header, how many lines of each kind came, and the ranks that they gave
 pub record State : Type 0 where
-  pub begun : ℕ
+  pub begun : Bool
   pub rounds : ℕ
   pub headcount : ℕ
   pub triplecount : ℕ
@@ -26,7 +27,7 @@ pub record Ended : Type 0 where
   pub line : ℕ
   pub state : State
 
--- a state, a step and an end out of what goes by value and what is lent
+-- a state, a step and an end out of the result and what is lent
 abbrev pub whole : Tally → (heads triples : List ℕ) → State
 whole t hs ts = record {
   begun = t.begun;
@@ -39,15 +40,24 @@ whole t hs ts = record {
   triplecells = ts;
 }
 
-abbrev pub stepped : Tallied → (heads triples : List ℕ) → Step
-stepped r hs ts = record { refusal = r.refusal; state = whole r.tally hs ts }
+abbrev pub stepped : Result (Unit {0}) Fault → Tally → (heads triples : List ℕ) → Step
+stepped r t hs ts = record { refusal = number_in r; state = whole t hs ts }
 
-abbrev pub ended : End → (heads triples : List ℕ) → Ended
-ended r hs ts = record { refusal = r.refusal; line = r.line; state = whole r.tally hs ts }
+-- the number of a text's result, and its line, 0 and 0 where it is read to its end
+abbrev pub end_number : Result (Unit {0}) TextError → ℕ
+end_number (Ok _) = 0
+end_number (Err e) = text_number e
+
+abbrev pub end_line : Result (Unit {0}) TextError → ℕ
+end_line (Ok _) = 0
+end_line (Err e) = text_line e
+
+abbrev pub ended : Result (Unit {0}) TextError → Tally → (heads triples : List ℕ) → Ended
+ended r t hs ts = record { refusal = end_number r; line = end_line r; state = whole t hs ts }
 
 -- before the first line, and with the ranks that are lent
 abbrev pub nothing : Tally
-nothing = record { begun = 0; rounds = 0; headcount = 0; triplecount = 0; heads = 0; triples = 0 }
+nothing = record { begun = false; rounds = 0; headcount = 0; triplecount = 0; heads = 0; triples = 0 }
 
 abbrev pub before : (heads triples : List ℕ) → State
 before hs ts = whole nothing hs ts

@@ -2,9 +2,10 @@
 #![tactic(auto)]
 
 ghost use Rattle.std.specs.Prelude.{◌≡◌, ℕ, ◌≤◌, length, List};
-ghost use Rattle.rows.specs.Lines.{safe_step, head_step, triple_step, step_of, agreement, finished, read_lines, read_text};
+ghost use Rattle.rows.specs.Lines.{safe_step, head_step, triple_step, step_of, finished, read_lines, read_text};
 ghost use Rattle.rows.specs.State.{nothing, whole, before, stepped, ended, Counted};
 
+use line::{Fault, TextError};
 use listingline::{Line, Word};
 use numbers::Numbers;
 use ranking::LARGEST;
@@ -15,9 +16,9 @@ const LONGEST: usize = 45056;
 
 // What is read so far beside the ranks: the header, and how many lines of each kind came. The ranks are collected in two lent arrays.
 // The lines are counted in numbers of the machine's width: so the compiler keeps each count in a register of its own.
-#[derive(Clone, Copy)]
+#[derive(Clone, Copy, Default)]
 pub struct Tally {
-    pub begun: u8,
+    pub begun: bool,
     pub rounds: u16,
     pub headcount: u32,
     pub triplecount: u32,
@@ -25,196 +26,125 @@ pub struct Tally {
     pub triples: usize,
 }
 
-// What a line does: the document's number of its refusal, or 0, and the tally after it.
-#[derive(Clone, Copy)]
-pub struct Tallied {
-    pub refusal: u8,
-    pub tally: Tally,
-}
-
-// Where the reading ended, and why.
-#[derive(Clone, Copy)]
-pub struct End {
-    pub refusal: u8,
-    pub line: usize,
-    pub tally: Tally,
-}
-
-// Before the first line.
-fn nothing() -> Tally
-    ensures { result ≡ nothing }
-{
-    Tally {
-        begun: 0,
-        rounds: 0,
-        headcount: 0,
-        triplecount: 0,
-        heads: 0,
-        triples: 0,
-    }
-}
-
 // The header.
-fn take_safe(t: Tally, n: Numbers) -> Tallied
-    ensures { (hs ts : List ℕ) → stepped result hs ts ≡ safe_step (whole t hs ts) n }
+fn take_safe(tally: &mut Tally, n: Numbers) -> Result<(), Fault>
+    ensures { (hs ts : List ℕ) → stepped result tally.new hs ts ≡ safe_step (whole tally.old hs ts) n }
 {
     if n.count != 3 {
-        return Tallied {
-            refusal: 2,
-            tally: t,
-        };
+        return Err(Fault::Malformed);
     }
-    if t.begun != 0 {
-        return Tallied {
-            refusal: 3,
-            tally: t,
-        };
+    if tally.begun {
+        return Err(Fault::Misplaced);
     }
     let at = n.at;
     let rounds = at[0];
     if LARGEST < rounds {
-        return Tallied {
-            refusal: 4,
-            tally: t,
-        };
+        return Err(Fault::OutOfRange);
     }
-    let mut next = t;
-    next.begun = 1;
-    next.rounds = rounds as u16;
-    next.headcount = at[1];
-    next.triplecount = at[2];
-    Tallied {
-        refusal: 0,
-        tally: next,
-    }
+    tally.begun = true;
+    tally.rounds = rounds as u16;
+    tally.headcount = at[1];
+    tally.triplecount = at[2];
+    Ok(())
 }
 
 // A head's line.
-fn take_head(heads: &mut [u16], size: Size, t: Tally, n: Numbers) -> Tallied
-    requires { Counted t }
-    ensures { (ts : List ℕ) → stepped result heads.new ts ≡ head_step size (whole t heads.old ts) n }
+fn take_head(heads: &mut [u16], tally: &mut Tally, size: Size, n: Numbers) -> Result<(), Fault>
+    requires { Counted tally.old }
+    ensures { (ts : List ℕ) → stepped result tally.new heads.new ts ≡ head_step size (whole tally.old heads.old ts) n }
 {
-    let refusal = ranking::rank_head(heads, size, t.begun, n);
-    if refusal != 0 {
-        return Tallied { refusal, tally: t };
-    }
-    let mut next = t;
-    next.heads = t.heads + 1;
-    Tallied {
-        refusal: 0,
-        tally: next,
-    }
+    ranking::rank_head(heads, size, u8::from(tally.begun), n)?;
+    tally.heads += 1;
+    Ok(())
 }
 
 // A triple's line.
-fn take_triple(triples: &mut [u16], size: Size, t: Tally, n: Numbers) -> Tallied
-    requires { Counted t }
-    ensures { (hs : List ℕ) → stepped result hs triples.new ≡ triple_step size (whole t hs triples.old) n }
+fn take_triple(triples: &mut [u16], tally: &mut Tally, size: Size, n: Numbers) -> Result<(), Fault>
+    requires { Counted tally.old }
+    ensures { (hs : List ℕ) → stepped result tally.new hs triples.new ≡ triple_step size (whole tally.old hs triples.old) n }
 {
-    let refusal = ranking::rank_triple(triples, size, t.begun, n);
-    if refusal != 0 {
-        return Tallied { refusal, tally: t };
-    }
-    let mut next = t;
-    next.triples = t.triples + 1;
-    Tallied {
-        refusal: 0,
-        tally: next,
-    }
+    ranking::rank_triple(triples, size, u8::from(tally.begun), n)?;
+    tally.triples += 1;
+    Ok(())
 }
 
 // What a line does.
-fn take_line(heads: &mut [u16], triples: &mut [u16], size: Size, t: Tally, l: Line) -> Tallied
-    requires { Counted t }
-    ensures { stepped result heads.new triples.new ≡ step_of size (whole t heads.old triples.old) l }
+fn take_line(
+    heads: &mut [u16],
+    triples: &mut [u16],
+    tally: &mut Tally,
+    size: Size,
+    l: Line,
+) -> Result<(), Fault>
+    requires { Counted tally.old }
+    ensures { stepped result tally.new heads.new triples.new ≡ step_of size (whole tally.old heads.old triples.old) l }
 {
-    let w = l.word;
     let n = l.numbers;
-    match w {
-        Word::Safe => take_safe(t, n),
-        Word::Head => take_head(heads, size, t, n),
-        Word::Erase => take_triple(triples, size, t, n),
-        Word::Unknown => Tallied {
-            refusal: 2,
-            tally: t,
-        },
+    match l.word {
+        Word::Safe => take_safe(tally, n),
+        Word::Head => take_head(heads, tally, size, n),
+        Word::Erase => take_triple(triples, tally, size, n),
+        Word::Unknown => Err(Fault::Malformed),
     }
 }
 
-// Whether the header and the lines agree.
-fn agrees(begun: u8, heads: usize, headcount: u32, triples: usize, triplecount: u32) -> u8
-    ensures { result ≡ agreement begun heads headcount triples triplecount }
+// After the last line: whether there was a header, and its counts are the numbers of lines.
+fn finish(tally: &Tally) -> Result<(), TextError>
+    ensures { (hs ts : List ℕ) → ended result tally.now hs ts ≡ finished (whole tally.now hs ts) }
 {
-    if begun == 0 {
-        return 3;
+    let agrees = tally.begun
+        && tally.heads == tally.headcount as usize
+        && tally.triples == tally.triplecount as usize;
+    if !agrees {
+        let fault = Fault::Misplaced;
+        return Err(TextError::Line { fault, line: 0 });
     }
-    if heads != headcount as usize {
-        return 3;
-    }
-    if triples != triplecount as usize {
-        return 3;
-    }
-    0
+    Ok(())
 }
 
-// After the last line.
-fn finish(t: Tally) -> End
-    ensures { (hs ts : List ℕ) → ended result hs ts ≡ finished (whole t hs ts) }
+// The lines of a text, one after another, from an empty tally; the first that is refused ends the reading.
+fn read_lines(
+    heads: &mut [u16],
+    triples: &mut [u16],
+    tally: &mut Tally,
+    size: Size,
+    text: &[u8],
+) -> Result<(), TextError>
+    requires short { length text.now ≤ 45056 }
+    requires empty { tally.old ≡ nothing }
+    ensures { ended result tally.new heads.new triples.new ≡ read_lines size 1 (before heads.old triples.old) text.now }
 {
-    let refusal = agrees(t.begun, t.heads, t.headcount, t.triples, t.triplecount);
-    End {
-        refusal,
-        line: 0,
-        tally: t,
-    }
-}
-
-// The lines of a text, one after another; the first that is refused ends the reading.
-fn read_lines(heads: &mut [u16], triples: &mut [u16], size: Size, text: &[u8]) -> End
-    requires { length text.now ≤ 45056 }
-    ensures { ended result heads.new triples.new ≡ read_lines size 1 (before heads.old triples.old) text.now }
-{
-    let mut t = nothing();
     let mut rest = text;
     let mut line: usize = 1;
     while 0 < rest.len() {
-        let l = listingline::read_line(rest);
+        let l = line::read_line::<Word>(rest);
         let e = l.end;
         if rest.len() <= e {
-            return End {
-                refusal: 2,
-                line,
-                tally: t,
-            };
+            let fault = Fault::Malformed;
+            return Err(TextError::Line { fault, line });
         }
-        let said = l.line;
-        let r = take_line(heads, triples, size, t, said);
-        let refusal = r.refusal;
-        t = r.tally;
-        if refusal != 0 {
-            return End {
-                refusal,
-                line,
-                tally: t,
-            };
+        if let Err(fault) = take_line(heads, triples, tally, size, l.line) {
+            return Err(TextError::Line { fault, line });
         }
         line += 1;
-        let b = e + 1;
-        rest = &rest[b..];
+        rest = &rest[e + 1..];
     }
-    finish(t)
+    finish(tally)
 }
 
-// A whole text, unless it is too long; its ranks come to those in the two lent arrays.
-pub fn read_text(heads: &mut [u16], triples: &mut [u16], size: Size, text: &[u8]) -> End
-    ensures { ended result heads.new triples.new ≡ read_text size (before heads.old triples.old) text.now }
+// A whole text, unless it is too long; its ranks come to those in the two lent arrays, and the rest to an empty tally.
+pub fn read_text(
+    heads: &mut [u16],
+    triples: &mut [u16],
+    tally: &mut Tally,
+    size: Size,
+    text: &[u8],
+) -> Result<(), TextError>
+    ensures { ended result tally.new heads.new triples.new ≡ read_text size (before heads.old triples.old) text.now }
 {
+    *tally = Tally::default();
     if LONGEST < text.len() {
-        return End {
-            refusal: 1,
-            line: 0,
-            tally: nothing(),
-        };
+        return Err(TextError::TooLong);
     }
-    read_lines(heads, triples, size, text)
+    read_lines(heads, triples, tally, size, text)
 }

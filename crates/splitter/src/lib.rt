@@ -9,10 +9,7 @@ ghost use Rattle.splitter.specs.Search.{letter_of, safe_at};
 fn starts_safe(s: &[u8]) -> bool
     ensures { result ≡ starts_safe s.now }
 {
-    if s.len() < 4 {
-        return false;
-    }
-    text::same(&s[..4], b"safe")
+    s.starts_with(b"safe")
 }
 
 // Whether a line begins at `at` that starts with `safe`.
@@ -20,52 +17,38 @@ fn safe_at(text: &[u8], at: usize) -> bool
     requires { at < length text.now }
     ensures { result ≡ safe_at text.now at }
 {
-    if at == 0 {
-        return starts_safe(text);
-    }
-    if text[at - 1] != b'\n' {
-        return false;
-    }
-    starts_safe(&text[at..])
+    let begins = at == 0 || text[at - 1] == b'\n';
+    begins && starts_safe(&text[at..])
 }
 
-// Which letter of `safe` b is, or 4 where it is none.
-fn letter_of(b: u8) -> usize
+// Which letter of `safe` b is.
+fn letter_of(b: u8) -> Option<usize>
     ensures { result ≡ letter_of b }
 {
-    if b == b's' {
-        return 0;
+    match b {
+        b's' => Some(0),
+        b'a' => Some(1),
+        b'f' => Some(2),
+        b'e' => Some(3),
+        _ => None,
     }
-    if b == b'a' {
-        return 1;
-    }
-    if b == b'f' {
-        return 2;
-    }
-    if b == b'e' {
-        return 3;
-    }
-    4
 }
 
 // Where the first line begins that starts with `safe`, or the length of the text where there is none. Of four places in a
-// row the byte at the last says which one it can be, so that only every fourth byte is looked at.
+// row the byte at the last says which one it can be, so that only every fourth byte is looked at. The length and no `Option` says
+// that there is none, since both parts are cut at the answer.
 pub fn listing_at(text: &[u8]) -> usize
     ensures { result ≡ place text.now }
 {
-    let n = text.len();
-    let mut last: usize = 3;
-    while last < n {
-        let letter = letter_of(text[last]);
-        if letter < 4 {
+    for last in (3..text.len()).step_by(4) {
+        if let Some(letter) = letter_of(text[last]) {
             let at = last - letter;
             if safe_at(text, at) {
                 return at;
             }
         }
-        last += 4;
     }
-    n
+    text.len()
 }
 
 // The listing: the part of the lent text from that line, or nothing.

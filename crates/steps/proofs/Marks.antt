@@ -15,10 +15,10 @@ use borrow.Author.Tests.{eq-eqb, ne_eqb, lt-ltb, le-ltb}
 use Rattle.product.proofs.Lists.{and_left, and_right, both, or_left, or_right, or_cases, same_truth}
 use Rattle.bits.specs.Bit.{bit, word}
 use Rattle.bits.specs.Matrix.{some}
+use Rattle.bits.specs.Ones.{Lowest}
 use Rattle.bits.proofs.Bit.{bit_and_lem, bit_or_lem, bit_zero, bit_shl, bit_shl_below, bit_past}
 use Rattle.bits.proofs.Set.{bit_pow}
-use Rattle.bits.proofs.Lowest.{lowest}
-use Rattle.bits.proofs.Some.{some_of, of_some, some_lowest, some_none}
+use Rattle.bits.proofs.Some.{some_of, of_some, some_taken, some_none}
 use Rattle.model.specs.Model.{shows_at}
 use Rattle.lent.specs.Lending.{is_true}
 use Rattle.steps.specs.Events.{marks, marked}
@@ -157,13 +157,16 @@ module _ (on : List ℕ) (first : ℕ) where
   or_assoc true b c = refl
   or_assoc false b c = refl
 
-  pub left_next : (w m d r : ℕ) → 0 < d → d < 2 ^ 64 → Left w m d r → Left w m (bit_and d (d - 1)) (bit_or r (get_or on (first + lowest d / 8) 0))
+  pub left_first : (w m : ℕ) → {d : ℕ} → d ≡ w → Left w m d m
+  left_first w m e i = ap (λ d. bit m i || marked on first d i) e
+
+  pub left_next : (w m d r : ℕ) → {j d' : ℕ} → Lowest d j d' → Left w m d r → Left w m d' (bit_or r (get_or on (first + j / 8) 0))
   unfolding marked
-  left_next w m d r p h l i =
-      let x : ℕ = get_or on (first + lowest d / 8) 0 in
-      ap (λ b. b || marked on first (bit_and d (d - 1)) i) (bit_or_lem r x i)
-      ∙ or_assoc (bit r i) (bit x i) (marked on first (bit_and d (d - 1)) i)
-      ∙ ap (λ b. bit r i || b) (sym (some_lowest d p h (λ j. bit (get_or on (first + j / 8) 0) i)))
+  left_next w m d r {j} {d'} t l i =
+      let x : ℕ = get_or on (first + j / 8) 0 in
+      ap (λ b. b || marked on first d' i) (bit_or_lem r x i)
+      ∙ or_assoc (bit r i) (bit x i) (marked on first d' i)
+      ∙ ap (λ b. bit r i || b) (sym (some_taken t (λ j. bit (get_or on (first + j / 8) 0) i)))
       ∙ l i
 
   pub left_last : (w m d r : ℕ) → d ≡ 0 → Left w m d r → (i : ℕ) → bit r i ≡ bit m i || marked on first w i

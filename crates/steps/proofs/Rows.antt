@@ -20,13 +20,15 @@ use Rattle.model.proofs.Valid.{valid_sizes, product_in_lem}
 use Rattle.lent.specs.Lending.{part, of_lent, model_in}
 use Rattle.lent.proofs.Parts.{in_part}
 use Rattle.steps.specs.Steps.{class_of}
-use Rattle.steps.specs.Rows.{kind_at, class_at, over_at, under_at, RowAt, rule_by, row_rule}
+use Rattle.steps.specs.declared.Kind.{Kind}
+use Rattle.steps.specs.declared.Kind.TheVariants.{Exit}
+use Rattle.steps.specs.Rows.{kind_of, kind_at, class_at, over_at, under_at, RowAt, rule_by, row_rule}
 use Rattle.steps.proofs.Built.{class_past, class_row}
 use Rattle.steps.proofs.Laws.{symbol_same}
 
 -- the numbers where they lie
 module _ (cells : List ℕ) (r : ℕ) where
-  pub row_read : r < 256 → {k c o u : ℕ} → k ≡ get_or cells (4 * r) 0 → (c ≡ get_or cells (4 * r + 1) 0) × (c < 256)
+  pub row_read : r < 256 → {k : Kind} {c o u : ℕ} → k ≡ kind_of (get_or cells (4 * r) 0) → (c ≡ get_or cells (4 * r + 1) 0) × (c < 256)
       → (o ≡ get_or cells (4 * r + 2) 0 % 32) × (o < 32) → (u ≡ get_or cells (4 * r + 3) 0 % 32) × (u < 32)
       → RowAt cells r (record { kind = k; class = c; over = o; under = u })
   unfolding kind_at class_at over_at under_at
@@ -34,7 +36,7 @@ module _ (cells : List ℕ) (r : ℕ) where
       let e = lt-ltb r 256 l in
       record { kind_is = rw e k; class_is = rw e c; over_is = rw e o; under_is = rw e u; class_in = c'; over_in = o'; under_in = u' }
 
-  pub row_past : 256 ≤ r → RowAt cells r (record { kind = 0; class = 0; over = 0; under = 0 })
+  pub row_past : 256 ≤ r → RowAt cells r (record { kind = Exit; class = 0; over = 0; under = 0 })
   unfolding kind_at class_at over_at under_at
   row_past l =
       let e = le-ltb r 256 l in

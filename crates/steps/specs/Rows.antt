@@ -2,6 +2,8 @@
 -- and of a number from 256 on, which is no rule, they are 0. Assumes nothing.
 use Rattle.std.specs.Prelude.{cond, List, ◌≡◌, ℕ, zero, suc, ◌+◌, ◌*◌, ◌%◌, ◌<◌, ltb, get_or}
 use Rattle.product.specs.Product.{Rule, exit, direct, call}
+use Rattle.steps.specs.declared.Kind.{Kind}
+use Rattle.steps.specs.declared.Kind.TheVariants.{Exit, Direct, Call}
 use Rattle.steps.specs.declared.Row.{Row}
 use Rattle.steps.specs.Steps.{symbol_of}
 
@@ -17,9 +19,15 @@ over_at cells r = cond (ltb r 256) (get_or cells (4 * r + 2) 0 % 32) 0
 unfoldable pub under_at : List ℕ → ℕ → ℕ
 under_at cells r = cond (ltb r 256) (get_or cells (4 * r + 3) 0 % 32) 0
 
+-- the kind by its number
+abbrev pub kind_of : ℕ → Kind
+kind_of zero = Exit
+kind_of (suc zero) = Direct
+kind_of (suc (suc k)) = Call
+
 -- the numbers of rule r were read
 pub record RowAt (cells : List ℕ) (r : ℕ) (row : Row) : Type 0 where
-  pub kind_is : row.kind ≡ kind_at cells r
+  pub kind_is : row.kind ≡ kind_of (kind_at cells r)
   pub class_is : row.class ≡ class_at cells r
   pub over_is : row.over ≡ over_at cells r
   pub under_is : row.under ≡ under_at cells r

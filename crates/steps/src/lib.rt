@@ -8,25 +8,39 @@ ghost use Rattle.bits.specs.Matrix.{some};
 ghost use Rattle.lent.specs.Lending.{model_in};
 ghost use Rattle.model.specs.Model.{shown};
 ghost use Rattle.steps.specs.Events.{event_steps, with_move, marks, marked};
-ghost use Rattle.steps.specs.Rows.{RowAt};
+ghost use Rattle.steps.specs.Rows.{RowAt, kind_of};
 ghost use Rattle.steps.specs.Steps.{class_of, symbol_of, class_steps, states_after};
 
+use bits::Ones;
 use lent::Lent;
+
+// What a rule does to the stack: its symbol is taken off, and none, one or two are pushed.
+#[derive(Clone, Copy, PartialEq, Eq, Debug)]
+pub enum Kind {
+    Exit,
+    Direct,
+    Call,
+}
+
+impl From<u8> for Kind {
+    ghost from_gives = { λ n kind. kind ≡ kind_of n };
+
+    fn from(n: u8) -> Self {
+        match n {
+            0 => Kind::Exit,
+            1 => Kind::Direct,
+            _ => Kind::Call,
+        }
+    }
+}
 
 // A rule by its numbers: its kind, its class, the symbol that it puts on top, and the one under that. Those that a rule does not use may be anything.
 #[derive(Clone, Copy)]
 pub struct Row {
-    pub kind: u8,
+    pub kind: Kind,
     pub class: usize,
     pub over: usize,
     pub under: usize,
-}
-
-fn index(x: u8) -> usize
-    ensures value { result ≡ x }
-    ensures upper_bound { result < 256 }
-{
-    x as usize
 }
 
 // A byte as a symbol: below 32, whatever stands in a number that is not in use.
@@ -34,29 +48,14 @@ fn low(x: u8) -> usize
     ensures value { result ≡ x % 32 }
     ensures upper_bound { result < 32 }
 {
-    (x % 32) as usize
-}
-
-fn at_most(n: usize, most: usize) -> usize
-    ensures { result ≡ min n most }
-{
-    if n < most {
-        return n;
-    }
-    most
+    usize::from(x % 32)
 }
 
 // Enters a move from q by e to x into the matrix of its event; one whose numbers have no place there is let be.
 fn put_move(on: &mut [u64; 16], q: u64, e: usize, x: u64)
     ensures { on.new ≡ with_move on.old q e x }
 {
-    if 8 <= q {
-        return;
-    }
-    if 8 <= x {
-        return;
-    }
-    if 16 <= e {
+    if 8 <= q || 8 <= x || 16 <= e {
         return;
     }
     on[e] = on[e] | (1u64 << (q * 8 + x));
@@ -67,12 +66,9 @@ fn by_event(m: &Lent, moves: usize) -> [u64; 16]
     ensures { result ≡ event_steps (model_in m.now) moves }
 {
     let mut on = [0u64; 16];
-    let n = at_most(moves, 128);
-    let mut v: usize = 0;
-    while v < n {
+    for v in 0..moves.min(128) {
         let by = lent::move_at(m, v);
         put_move(&mut on, by.source as u64, by.event, by.target as u64);
-        v += 1;
     }
     on
 }
@@ -92,10 +88,8 @@ fn eight(m: &Lent, at: usize) -> u64
     ensures { result ≡ marks (model_in m.now).shows at 8 }
 {
     let mut w: u64 = 0;
-    let mut k: usize = 0;
-    while k < 8 {
+    for k in 0..8 {
         w = w | placed(m[1408 + at + k], k);
-        k += 1;
     }
     w & 0x0101010101010101
 }
@@ -105,12 +99,9 @@ fn join(on: &[u64; 16], from: usize, w: u64, m: u64) -> u64
     requires { from + 8 ≤ 16 }
     ensures { (i : ℕ) → bit result i ≡ bit m i || marked on.now from w i }
 {
-    let mut d = w;
     let mut r = m;
-    while d != 0 {
-        let e = u64::trailing_zeros(d) as usize / 8;
-        d = d & (d - 1);
-        r = r | on[from + e];
+    for i in Ones(w) {
+        r = r | on[from + i / 8];
     }
     r
 }
@@ -132,11 +123,8 @@ pub fn class_steps(m: &Lent) -> [u64; 256]
     let shape = lent::shape(m);
     let on = by_event(m, shape.moves);
     let mut tg = [0u64; 256];
-    let n = at_most(shape.symbols as usize, 32);
-    let mut g: usize = 0;
-    while g < n {
+    for g in 0..usize::from(shape.symbols).min(32) {
         tg[g] = symbol_steps(&on, m, g);
-        g += 1;
     }
     tg
 }
@@ -149,16 +137,16 @@ pub fn class_of(m: &Lent, r: usize) -> usize
     if 256 <= r {
         return 0;
     }
-    index(m[r * 4 + 1])
+    usize::from(m[r * 4 + 1])
 }
 
-// Rule r by its numbers; zeros for a number from 256 on, which is no rule.
+// Rule r by its numbers; an exit with zeros for a number from 256 on, which is no rule.
 pub fn row_at(m: &Lent, r: usize) -> Row
     ensures { RowAt m.now r result }
 {
     if 256 <= r {
         return Row {
-            kind: 0,
+            kind: Kind::Exit,
             class: 0,
             over: 0,
             under: 0,
@@ -166,8 +154,8 @@ pub fn row_at(m: &Lent, r: usize) -> Row
     }
     let at = 4 * r;
     Row {
-        kind: m[at],
-        class: index(m[at + 1]),
+        kind: Kind::from(m[at]),
+        class: usize::from(m[at + 1]),
         over: low(m[at + 2]),
         under: low(m[at + 3]),
     }

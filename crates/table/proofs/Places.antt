@@ -14,48 +14,47 @@ use Rattle.product.specs.Table.{absent}
 use Rattle.product.proofs.Lists.{and_left, and_right}
 use Rattle.table.specs.declared.Fact.{Fact}
 use Rattle.table.specs.declared.Fact.TheVariants.{Head, Triple}
-use Rattle.table.specs.declared.Place.{Place}
-use Rattle.table.specs.declared.Place.TheVariants.{Outside, Cell}
+use Rattle.std.specs.Prelude.{Option, Some, None, is_some}
 use Rattle.table.specs.Cells.{head_cell, view}
 use Rattle.table.specs.Places.{fact_of, as_fact, place, inside, cell_of, place_of, read_at, put_at, put_in}
 use Rattle.table.proofs.Bytes.{cell_small}
 
 -- the place r that was told
-told_inside : (b : Bool) (k : ℕ) {r : Place} {i : ℕ} → r ≡ place b k → r ≡ Cell i → (b ≡ true) × (i ≡ k)
+told_inside : (b : Bool) (k : ℕ) {r : Option ℕ} {i : ℕ} → r ≡ place b k → r ≡ Some i → (b ≡ true) × (i ≡ k)
 told_inside true k {i = i} e h = (refl, cc)
-told_inside false k e h = let z : ◌≡◌ {A = ℕ} 0 1 = cc in absurd (omega arith)
+told_inside false k e h = absurd cc
 
-told_outside : (b : Bool) (k : ℕ) {r : Place} → r ≡ place b k → r ≡ Outside → b ≡ false
-told_outside true k e h = let z : ◌≡◌ {A = ℕ} 0 1 = cc in absurd (omega arith)
+told_outside : (b : Bool) (k : ℕ) {r : Option ℕ} → r ≡ place b k → r ≡ None → b ≡ false
+told_outside true k e h = cc
 told_outside false k e h = refl
 
 -- a head's, by the tests
 module _ (G Q q g : ℕ) where
-  pub head_state : Q ≤ q → Outside ≡ place_of G Q (head q g)
+  pub head_state : Q ≤ q → None ≡ place_of G Q (head q g)
   head_state l = rw (le-ltb q Q l)
 
-  pub head_symbol : q < Q → G ≤ g → Outside ≡ place_of G Q (head q g)
+  pub head_symbol : q < Q → G ≤ g → None ≡ place_of G Q (head q g)
   head_symbol i l = rw (lt-ltb q Q i, le-ltb g G l)
 
-  pub head_cell_lem : q < Q → g < G → Cell (q * G + g) ≡ place_of G Q (head q g)
+  pub head_cell_lem : q < Q → g < G → Some (q * G + g) ≡ place_of G Q (head q g)
   head_cell_lem i j = rw (lt-ltb q Q i, lt-ltb g G j)
 
   -- and a triple's, by the place of its row
-  module _ {r : Place} (row : r ≡ place_of G Q (head q g)) (e : ℕ) where
-    pub triple_row : r ≡ Outside → Outside ≡ place_of G Q (triple q g e)
+  module _ {r : Option ℕ} (row : r ≡ place_of G Q (head q g)) (e : ℕ) where
+    pub triple_row : r ≡ None → None ≡ place_of G Q (triple q g e)
     triple_row h = rw (told_outside (ltb q Q && ltb g G) (head_cell G q g) row h)
 
-    module _ {i : ℕ} (h : r ≡ Cell i) where
+    module _ {i : ℕ} (h : r ≡ Some i) where
       is_inside : (ltb q Q && ltb g G) ≡ true
       is_inside = (told_inside (ltb q Q && ltb g G) (head_cell G q g) row h).0
 
       cell_is : i ≡ head_cell G q g
       cell_is = (told_inside (ltb q Q && ltb g G) (head_cell G q g) row h).1
 
-      pub triple_end : Q ≤ e → Outside ≡ place_of G Q (triple q g e)
+      pub triple_end : Q ≤ e → None ≡ place_of G Q (triple q g e)
       triple_end l = rw (is_inside, le-ltb e Q l)
 
-      pub triple_cell : e < Q → Cell (i * Q + e) ≡ place_of G Q (triple q g e)
+      pub triple_cell : e < Q → Some (i * Q + e) ≡ place_of G Q (triple q g e)
       triple_cell l = rw (is_inside, lt-ltb e Q l, ← cell_is)
 
       -- its number does not wrap
@@ -67,10 +66,10 @@ module _ (G Q q g : ℕ) where
           cell_small {a = i} {b = Q} {c = e} 65280 few l (omega arith)
 
 -- what is read
-pub read_nowhere : (xs : List ℕ) {r : Place} → r ≡ Outside → absent ≡ read_at xs r
+pub read_nowhere : (xs : List ℕ) {r : Option ℕ} → r ≡ None → absent ≡ read_at xs r
 read_nowhere xs h = rw h
 
-module _ (xs : List ℕ) {r : Place} {i : ℕ} (h : r ≡ Cell i) where
+module _ (xs : List ℕ) {r : Option ℕ} {i : ℕ} (h : r ≡ Some i) where
   pub read_past : length xs ≤ i → 0 ≡ read_at xs r
   read_past l = rw h (sym (get_or-eq_default xs 0 l))
 
@@ -84,7 +83,7 @@ module _ (xs : List ℕ) {r : Place} {i : ℕ} (h : r ≡ Cell i) where
   pub put_cell : (n : ℕ) → set xs i n ≡ put_at xs r n
   put_cell n = rw h
 
-pub put_nowhere : (xs : List ℕ) {r : Place} (n : ℕ) → r ≡ Outside → xs ≡ put_at xs r n
+pub put_nowhere : (xs : List ℕ) {r : Option ℕ} (n : ℕ) → r ≡ None → xs ≡ put_at xs r n
 put_nowhere xs n h = rw h
 
 -- at the place r of a fact, as the definitions have it
@@ -97,28 +96,29 @@ module _ (G Q : ℕ) (xs : List ℕ) where
   puts true k n = refl
   puts false k n = refl
 
-  pub fact_read : (f : product.Fact) {r : Place} → r ≡ place_of G Q f → {n : ℕ} → n ≡ read_at xs r → n ≡ view G Q xs xs f
+  pub fact_read : (f : product.Fact) {r : Option ℕ} → r ≡ place_of G Q f → {n : ℕ} → n ≡ read_at xs r → n ≡ view G Q xs xs f
   fact_read (head q g) at e = e ∙ ap (read_at xs) at ∙ reads (inside G Q (head q g)) (cell_of G Q (head q g))
   fact_read (triple q g x) at e = e ∙ ap (read_at xs) at ∙ reads (inside G Q (triple q g x)) (cell_of G Q (triple q g x))
 
-  pub fact_put : (f : product.Fact) {r : Place} → r ≡ place_of G Q f → (n : ℕ) {ys : List ℕ} → ys ≡ put_at xs r n → ys ≡ put_in G Q xs f n
+  pub fact_put : (f : product.Fact) {r : Option ℕ} → r ≡ place_of G Q f → (n : ℕ) {ys : List ℕ} → ys ≡ put_at xs r n → ys ≡ put_in G Q xs f n
   fact_put (head q g) at n e = e ∙ ap (λ r. put_at xs r n) at ∙ puts (inside G Q (head q g)) (cell_of G Q (head q g)) n
   fact_put (triple q g x) at n e = e ∙ ap (λ r. put_at xs r n) at ∙ puts (inside G Q (triple q g x)) (cell_of G Q (triple q g x)) n
 
 -- the array of its kind has the fact's rank
-module _ (G Q : ℕ) (hs ts : List ℕ) {f : Fact} {r : Place} where
+module _ (G Q : ℕ) (hs ts : List ℕ) {f : Fact} {r : Option ℕ} where
   pub rank_head : {q g : ℕ} → f ≡ Head q g → r ≡ place_of G Q (fact_of f) → {n : ℕ} → n ≡ read_at hs r → n ≡ view G Q hs ts (fact_of f)
   rank_head h at e = fact_read G Q hs (fact_of f) at e ∙ rw h
 
   pub rank_triple : {q g x : ℕ} → f ≡ Triple q g x → r ≡ place_of G Q (fact_of f) → {n : ℕ} → n ≡ read_at ts r → n ≡ view G Q hs ts (fact_of f)
   rank_triple h at e = fact_read G Q ts (fact_of f) at e ∙ rw h
 
--- whether a fact has a place
-pub has_place : (G Q : ℕ) (f : product.Fact) {r : Place} {i : ℕ} → r ≡ place_of G Q f → r ≡ Cell i → inside G Q f ≡ true
-has_place G Q f at h = (told_inside (inside G Q f) (cell_of G Q f) at h).0
-
-pub has_none : (G Q : ℕ) (f : product.Fact) {r : Place} → r ≡ place_of G Q f → r ≡ Outside → inside G Q f ≡ false
-has_none G Q f = told_outside (inside G Q f) (cell_of G Q f)
+-- a fact that is in range has a place
+pub has_place : (G Q : ℕ) (f : product.Fact) {r : Option ℕ} → r ≡ place_of G Q f → inside G Q f ≡ is_some r
+has_place G Q f at = go (inside G Q f) ∙ ap is_some (sym at)
+  where
+    go : (b : Bool) → b ≡ is_some (place b (cell_of G Q f))
+    go true = refl
+    go false = refl
 
 -- the theory's fact in the code and back
 pub fact_back : (f : product.Fact) → fact_of (as_fact f) ≡ f

@@ -28,6 +28,20 @@ module _ (c : ℕ) (s : List ℕ) (i : ℕ) where
   unfolding first
   first_end h = rw (drop_of_length-le s h)
 
+-- how the first piece begins
+module _ (c b : ℕ) (s : List ℕ) where
+  pub first_hit : b ≡ c → length (first c (b ∷ s)) ≡ 0
+  unfolding first
+  first_hit e = rw (eq-eqb _ _ e)
+
+  pub first_miss : (b ≡ c → ⊥) → length (first c (b ∷ s)) ≡ length (first c s) + 1
+  unfolding first
+  first_miss n = rw (ne_eqb _ _ n) (omega arith)
+
+pub first_none : (c : ℕ) → length (first c []) ≡ 0
+unfolding first
+first_none c = refl
+
 -- the first piece is the part before the place that find answers
 pub first_take : (c : ℕ) (s : List ℕ) → take (length (first c s)) s ≡ first c s
 unfolding first

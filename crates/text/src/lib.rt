@@ -8,32 +8,12 @@ ghost use Rattle.text.specs.Split.{first, same_bytes};
 pub fn find(s: &[u8], c: u8) -> usize
     ensures { result ≡ length (first c s.now) }
 {
-    let mut at = 0;
-    while at < s.len() {
-        if s[at] == c {
-            return at;
-        }
-        at += 1;
-    }
-    at
+    s.iter().position(|b| *b == c).unwrap_or(s.len())
 }
 
 // Whether two slices hold the same bytes.
 pub fn same(a: &[u8], b: &[u8]) -> bool
     ensures { result ≡ same_bytes a.now b.now }
 {
-    let mut i = 0;
-    while i < a.len() {
-        if b.len() <= i {
-            return false;
-        }
-        if a[i] != b[i] {
-            return false;
-        }
-        i += 1;
-    }
-    if b.len() <= i {
-        return true;
-    }
-    false
+    a == b
 }

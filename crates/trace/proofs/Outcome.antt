@@ -22,16 +22,19 @@ use Rattle.model.specs.declared.Model.{Model}
 use Rattle.model.specs.Model.{product_of}
 use Rattle.model.proofs.Valid.{product_in_lem, valid_sizes}
 use Rattle.table.specs.Cells.{view, heads_of, triples_of}
-use Rattle.decide.specs.declared.Decision.{Decision}
-use Rattle.decide.specs.declared.Decision.TheVariants.{Violation}
 use Rattle.decide.specs.Decided as decide
-use Rattle.decide.specs.Decided.{within, decision, heads_left, triples_left, Decided}
+use Rattle.decide.specs.Decided.{Decision, within, decision, heads_left, triples_left, Decided}
 use Rattle.fitting.specs.Fits.{heads_of as head_count, triples_of as triple_count, Fits}
 use Rattle.fitting.proofs.Tested.{tested_well, guarded_by}
-use Rattle.trace.specs.declared.Traced.{Traced}
-use Rattle.trace.specs.declared.Traced.TheVariants.{Found, Invalid, Short, Spent, Safe, Cut}
+use Rattle.trace.specs.declared.TraceError.TheVariants.{Undecided, Safe, Cut}
+use Rattle.fitting.specs.declared.Unfit.TheVariants.{Invalid, Short}
+use Rattle.decide.specs.declared.Verdict.TheVariants.{Violation}
+use Rattle.decide.specs.declared.DecideError.{DecideError}
+use Rattle.decide.specs.declared.DecideError.TheVariants.{Refused, Spent}
+use Rattle.std.specs.Prelude.{Ok, Err}
+use Rattle.std.specs.Result.{IsErrAnd}
 use Rattle.trace.specs.Written.{Ranked, violation_steps, Written}
-use Rattle.trace.specs.Outcome.{Trace, traced, meaning, traced_by, steps_by, Outcome}
+use Rattle.trace.specs.Outcome.{TraceAnswer, Trace, traced, meaning, traced_by, steps_by, Outcome}
 use Rattle.decide.proofs.Laid.{ranks_laid}
 
 -- a verdict was answered: the model is valid, the arrays are long enough, and the rounds gave it
@@ -54,7 +57,7 @@ module _ (m : Model) (budget h t : ℕ) (v : Verdict) where
       go none e = let z : ◌≡◌ {A = ℕ} 0 1 = cc in absurd (omega arith)
 
 -- the arrays that a violation leaves
-module _ (m : Model) (budget : ℕ) (hs ts hs' ts' : List ℕ) {r : Decision} (D : Decided m budget hs ts r hs' ts') (n : ℕ) (told : r ≡ Violation n) where
+module _ (m : Model) (budget : ℕ) (hs ts hs' ts' : List ℕ) {r : Decision} (D : Decided m budget hs ts r hs' ts') (n : ℕ) (told : r ≡ Ok (Violation n)) where
   is_violation : Answered m budget (length hs) (length ts) (violation n)
   is_violation = answered_by m budget (length hs) (length ts) (violation n) (sym (ap decide.meaning told) ∙ D.answer)
 
@@ -89,7 +92,7 @@ module _ (m : Model) (budget : ℕ) (hs ts hs' ts' : List ℕ) {r : Decision} (D
   }
 
   -- the trace that was written from them
-  pub outcome_traced : {room room' : List ℕ} {d : Traced} → Written m n room d room' → Outcome m budget hs ts room d hs' ts' room'
+  pub outcome_traced : {room room' : List ℕ} {d : TraceAnswer} → Written m n room d room' → Outcome m budget hs ts room d hs' ts' room'
   outcome_traced {room} {room'} {d} w =
       let e : answered (violation n) ≡ decision m budget (length hs) (length ts) = sym (ap decide.meaning told) ∙ D.answer in
       record {
@@ -99,13 +102,13 @@ module _ (m : Model) (budget : ℕ) (hs ts hs' ts' : List ℕ) {r : Decision} (D
         steps = w.cells ∙ ap (λ x. sets room 0 (steps_by m x)) e;
       }
     where
-      as_fits : (b : Bool) → meaning (cond b (Found n (length (violation_steps m n))) (Cut n (length room))) ≡ cond b (answered (traced n (length (violation_steps m n)))) (refused 10 (n ∷ length room ∷ []))
+      as_fits : (b : Bool) → meaning (cond b (Ok (record { rounds = n; steps = length (violation_steps m n) })) (Err (Cut n (length room)))) ≡ cond b (answered (traced n (length (violation_steps m n)))) (refused 10 (n ∷ length room ∷ []))
       as_fits true = refl
       as_fits false = refl
 
 -- the other answers leave the room as it was
 pub outcome_other : (m : Model) (budget : ℕ) (hs ts hs' ts' room : List ℕ) {r : Decision} → Decided m budget hs ts r hs' ts'
-    → (r' : Decision) → r ≡ r' → (d : Traced) → meaning d ≡ traced_by m (length room) (decide.meaning r') → steps_by m (decide.meaning r') ≡ []
+    → (r' : Decision) → r ≡ r' → (d : TraceAnswer) → meaning d ≡ traced_by m (length room) (decide.meaning r') → steps_by m (decide.meaning r') ≡ []
     → Outcome m budget hs ts room d hs' ts' room
 outcome_other m budget hs ts hs' ts' room D r' told d a b =
     let e : decide.meaning r' ≡ decision m budget (length hs) (length ts) = sym (ap decide.meaning told) ∙ D.answer in
@@ -116,25 +119,37 @@ outcome_other m budget hs ts hs' ts' room D r' told d a b =
       steps = ap (sets room 0) (sym b ∙ ap (steps_by m) e);
     }
 
+-- as `?` passes on why there is no verdict
+pub passed_on : (m : Model) (budget : ℕ) (hs ts hs' ts' room : List ℕ) (e : DecideError) → Decided m budget hs ts (Err e) hs' ts'
+    → (d : TraceAnswer) → IsErrAnd d (λ x. x ≡ Undecided e) → Outcome m budget hs ts room d hs' ts' room
+passed_on m budget hs ts hs' ts' room (Refused Invalid) D (Err x) n = rw n (outcome_other m budget hs ts hs' ts' room D _ refl _ refl refl)
+passed_on m budget hs ts hs' ts' room (Refused Short) D (Err x) n = rw n (outcome_other m budget hs ts hs' ts' room D _ refl _ refl refl)
+passed_on m budget hs ts hs' ts' room (Spent b) D (Err x) n = rw n (outcome_other m budget hs ts hs' ts' room D _ refl _ refl refl)
+passed_on m budget hs ts hs' ts' room (Refused Invalid) D (Ok x) n = absurd n
+passed_on m budget hs ts hs' ts' room (Refused Short) D (Ok x) n = absurd n
+passed_on m budget hs ts hs' ts' room (Spent b) D (Ok x) n = absurd n
+
 -- the case that has a meaning
-abbrev meant : Answer Trace → Traced
-meant (answered (traced n k)) = Found n k
-meant (refused k []) = Invalid
-meant (refused k (a ∷ [])) = cond (eqb k 6) Invalid (cond (eqb k 7) Short (cond (eqb k 8) (Spent a) (Safe a)))
-meant (refused k (a ∷ b ∷ rest)) = Cut a b
+abbrev meant : Answer Trace → TraceAnswer
+meant (answered (traced n k)) = Ok (record { rounds = n; steps = k })
+meant (refused k []) = Err (Undecided (Refused Invalid))
+meant (refused k (a ∷ [])) =
+    cond (eqb k 6) (Err (Undecided (Refused Invalid)))
+    (cond (eqb k 7) (Err (Undecided (Refused Short))) (cond (eqb k 8) (Err (Undecided (Spent a))) (Err (Safe a))))
+meant (refused k (a ∷ b ∷ rest)) = Err (Cut a b)
 
-meant_meaning : (r : Traced) → meant (meaning r) ≡ r
-meant_meaning (Found n k) = refl
-meant_meaning Invalid = refl
-meant_meaning Short = refl
-meant_meaning (Spent b) = refl
-meant_meaning (Safe n) = refl
-meant_meaning (Cut n k) = refl
+meant_meaning : (r : TraceAnswer) → meant (meaning r) ≡ r
+meant_meaning (Ok t) = refl
+meant_meaning (Err (Undecided (Refused Invalid))) = refl
+meant_meaning (Err (Undecided (Refused Short))) = refl
+meant_meaning (Err (Undecided (Spent b))) = refl
+meant_meaning (Err (Safe n)) = refl
+meant_meaning (Err (Cut n k)) = refl
 
-pub meaning_one : (r r' : Traced) → meaning r ≡ meaning r' → r ≡ r'
+pub meaning_one : (r r' : TraceAnswer) → meaning r ≡ meaning r' → r ≡ r'
 meaning_one = apart meant meant_meaning
 
-pub outcome_one : (m : Model) (budget : ℕ) (hs ts room : List ℕ) (r r' : Traced) (hs' hs'' ts' ts'' room' room'' : List ℕ)
+pub outcome_one : (m : Model) (budget : ℕ) (hs ts room : List ℕ) (r r' : TraceAnswer) (hs' hs'' ts' ts'' room' room'' : List ℕ)
     → Outcome m budget hs ts room r hs' ts' room' → Outcome m budget hs ts room r' hs'' ts'' room'' → (r ≡ r') × (hs' ≡ hs'') × (ts' ≡ ts'') × (room' ≡ room'')
 outcome_one m budget hs ts room r r' hs' hs'' ts' ts'' room' room'' a b = (
   meaning_one r r' (a.answer ∙ sym b.answer),

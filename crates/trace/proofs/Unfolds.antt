@@ -1,4 +1,5 @@
 -- The steps of a fact are those of its explanation: the run of its head, the step, and the runs of its triples. Assumes nothing.
+use Rattle.std.specs.Prelude.{Some, None}
 use mathlib.Core.List.{List, [], ◌∷◌, ◌++◌, append-nil}
 use mathlib.Core.Option.{Option, none, some}
 use mathlib.Core.Path.{◌≡◌, refl, sym, ap, ap₂, ◌∙◌, subst, subst⁻¹}
@@ -20,14 +21,10 @@ use Rattle.product.proofs.Ways.{EachWay, steps_ways}
 use Rattle.table.specs.declared.Fact as code
 use Rattle.table.specs.Places.{fact_of}
 use Rattle.table.proofs.Places.{fact_back}
-use Rattle.culprit.specs.declared.Goal.{Goal}
-use Rattle.culprit.specs.declared.Goal.TheVariants.{Nothing, Of}
 use Rattle.explain.specs.declared.Cause.{Cause}
-use Rattle.explain.specs.declared.Found.{Found}
-use Rattle.explain.specs.declared.Found.TheVariants.{By, Nowhere}
 use Rattle.explain.specs.Search.{way_by_rank}
-use Rattle.explain.specs.Answers.{first_in, second_in, cause_of, found_as, explained}
-use Rattle.culprit.specs.Culprit.{goal_of}
+use Rattle.explain.specs.Answers.{Found, first_in, second_in, cause_of, found_as, explained}
+use Rattle.culprit.specs.Culprit.{Goal, goal_of}
 use Rattle.trace.specs.Unfold.{Explains, HeldFor, steps_for, Unfolded}
 use Rattle.culprit.proofs.First.{find_elim}
 use Rattle.explain.proofs.Tried.{found_none, found_some}
@@ -117,7 +114,7 @@ module _ (p : Product) (n : ℕ) (t : Table) (why : ℕ → Fact → Option Way)
     none_steps : why (suc k) f ≡ none → trace p n f ≡ []
     none_steps e = trace_by p n f k rank_of not_late ∙ ap (along_found (trace p n)) (sym way_of ∙ e)
 
-    some_runs : (w : Way) → why (suc k) f ≡ some w → Runs p n (Of d) (cause_of w)
+    some_runs : (w : Way) → why (suc k) f ≡ some w → Runs p n (Some d) (cause_of w)
     some_runs w e =
         let x : explanation p k f ≡ some w = sym way_of ∙ e in
         let (i, u) = find_elim (works (held p k) f) (ways p) w x in
@@ -140,25 +137,25 @@ module _ (p : Product) (n : ℕ) (t : Table) (why : ℕ → Fact → Option Way)
         parts : (xs : List Step) (s : Step) (bs cs : List Step) → each (xs ++ s ∷ (bs ++ cs)) stored ≡ each xs stored ++ (stored s ∷ (each bs stored ++ each cs stored))
         parts xs s bs cs = over_append xs (s ∷ (bs ++ cs)) (λ s. stored s ∷ []) ∙ ap (λ l. each xs stored ++ (stored s ∷ l)) (over_append bs cs (λ s. stored s ∷ []))
 
-    cause_runs : {a : Found} → a ≡ found_as (why (suc k) f) → {c : Cause} → a ≡ By c → Runs p n (Of d) c
+    cause_runs : {a : Found} → a ≡ found_as (why (suc k) f) → {c : Cause} → a ≡ Some c → Runs p n (Some d) c
     cause_runs read told =
         let (w, e, by) = found_some (why (suc k) f) read told in
-        subst⁻¹ (Runs p n (Of d)) (same_cause by) (some_runs w e)
+        subst⁻¹ (Runs p n (Some d)) (same_cause by) (some_runs w e)
 
   -- the same of the fact that is asked for, if one is
-  pub none_numbers : (f : Goal) → HeldFor p n f → {d : Found} → d ≡ found_as (explained why t f) → d ≡ Nowhere → numbers p n f ≡ []
-  none_numbers Nothing h read told = refl
-  none_numbers (Of f) h read told = ap (λ ss. each ss stored) (go (t (fact_of f)) refl (found_none (way_by_rank why (fact_of f) (t (fact_of f))) read told))
+  pub none_numbers : (f : Goal) → HeldFor p n f → {d : Found} → d ≡ found_as (explained why t f) → d ≡ None → numbers p n f ≡ []
+  none_numbers None h read told = refl
+  none_numbers (Some f) h read told = ap (λ ss. each ss stored) (go (t (fact_of f)) refl (found_none (way_by_rank why (fact_of f) (t (fact_of f))) read told))
     where
       go : (k : ℕ) → k ≡ t (fact_of f) → way_by_rank why (fact_of f) k ≡ none → trace p n (fact_of f) ≡ []
       go zero is e = start_steps (fact_of f) h (sym is)
       go (suc k) is e = none_steps f h k is e
 
-  pub found_runs : (f : Goal) → HeldFor p n f → {d : Found} → d ≡ found_as (explained why t f) → {c : Cause} → d ≡ By c → Runs p n f c
-  found_runs Nothing h read told = let z : ◌≡◌ {A = ℕ} 0 1 = cc in absurd (omega arith)
-  found_runs (Of f) h read told = go (t (fact_of f)) refl read told
+  pub found_runs : (f : Goal) → HeldFor p n f → {d : Found} → d ≡ found_as (explained why t f) → {c : Cause} → d ≡ Some c → Runs p n f c
+  found_runs None h read told = let z : ◌≡◌ {A = ℕ} 0 1 = cc in absurd (omega arith)
+  found_runs (Some f) h read told = go (t (fact_of f)) refl read told
     where
-      go : (k : ℕ) → k ≡ t (fact_of f) → {d : Found} → d ≡ found_as (way_by_rank why (fact_of f) k) → {c : Cause} → d ≡ By c → Runs p n (Of f) c
+      go : (k : ℕ) → k ≡ t (fact_of f) → {d : Found} → d ≡ found_as (way_by_rank why (fact_of f) k) → {c : Cause} → d ≡ Some c → Runs p n (Some f) c
       go zero is read told = let z : ◌≡◌ {A = ℕ} 0 1 = cc in absurd (omega arith)
       go (suc k) is read told = cause_runs f h k is read told
 
@@ -168,13 +165,13 @@ module _ (t : Table) (why : ℕ → Fact → Option Way) (f : Goal) {room : List
   unfolded_cut l i = record { within = i; steps = λ p n E h. past_put (numbers p n f) l i }
 
   module _ (i : at ≤ length room + 1) {d : Found} (read : d ≡ found_as (explained why t f)) where
-    pub unfolded_none : d ≡ Nowhere → Unfolded t why f room at at room
+    pub unfolded_none : d ≡ None → Unfolded t why f room at at room
     unfolded_none told = record {
       within = i;
       steps = λ p n E h. subst⁻¹ (λ l. Put room room at at l) (none_numbers p n t why E f h read told) (none_put room at (omega arith));
     }
 
-    pub unfolded_by : {c : Cause} → d ≡ By c → {r1 r2 r3 r4 : ℕ} {room1 room2 room3 room4 : List ℕ}
+    pub unfolded_by : {c : Cause} → d ≡ Some c → {r1 r2 r3 r4 : ℕ} {room1 room2 room3 room4 : List ℕ}
         → Unfolded t why c.before room at r1 room1 → Put room1 room2 r1 r2 ((c.rule * 128 + c.by) ∷ [])
         → Unfolded t why c.first room2 r2 r3 room3 → Unfolded t why c.second room3 r3 r4 room4
         → r4 ≤ length room + 1 → Unfolded t why f room at r4 room4

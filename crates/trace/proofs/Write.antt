@@ -25,10 +25,11 @@ use Rattle.table.specs.declared.Size.{Size}
 use Rattle.table.specs.Cells.{view}
 use Rattle.fitting.specs.Fits.{size_of}
 use Rattle.table.proofs.Places.{fact_back}
-use Rattle.culprit.specs.declared.Goal.{Goal}
 use Rattle.trace.specs.declared.Traced.{Traced}
-use Rattle.trace.specs.declared.Traced.TheVariants.{Found, Cut}
-use Rattle.culprit.specs.Culprit.{goal_as, culprit_in}
+use Rattle.trace.specs.declared.TraceError.{TraceError}
+use Rattle.trace.specs.declared.TraceError.TheVariants.{Cut}
+use Rattle.std.specs.Prelude.{Result, Ok, Err}
+use Rattle.culprit.specs.Culprit.{Goal, goal_as, culprit_in}
 use Rattle.explain.specs.Search.{why_in}
 use Rattle.trace.specs.Unfold.{HeldFor, steps_for, Unfolded}
 use Rattle.trace.specs.Written.{Ranked, violation_steps, Written}
@@ -56,20 +57,20 @@ module _ (m : Model) (n : ℕ) (hs ts : List ℕ) (R : Ranked m n hs ts) {f : Go
       subst (λ (ss : List Step). Put room room' 0 at (each ss stored)) (ap (steps_for (trace (product_of m) n)) is_culprit ∙ goal_trace (product_of m) n (culprit (product_of m) n))
       (u.steps (product_of m) n (explains_ranked m R.valid_model n R.small hs ts R.table) (subst⁻¹ (HeldFor (product_of m) n) is_culprit (goal_held (product_of m) n (culprit (product_of m) n) refl)))
 
-  pub written_cut : {k : ℕ} → k ≡ length room → k < at → Written m n room (Cut n k) room'
+  pub written_cut : {k : ℕ} → k ≡ length room → k < at → Written m n room (Err (Cut n k)) room'
   written_cut {k} e l = record {
     answer =
         let i : length room < length (violation_steps m n) = omega (arith, wrote.place, length_each (violation_steps m n) stored) in
-        rw (lt-leb (length (violation_steps m n)) (length room) i) (ap (Cut n) e);
+        rw (lt-leb (length (violation_steps m n)) (length room) i) (ap (λ k. Err (Cut n k)) e);
     cells = wrote.cells;
   }
 
-  pub written_whole : {k : ℕ} → k ≡ length room → at ≤ k → Written m n room (Found n at) room'
+  pub written_whole : {k : ℕ} → k ≡ length room → at ≤ k → Written m n room (Ok (record { rounds = n; steps = at })) room'
   written_whole {k} same l = record {
     answer =
         let e : at ≡ length (violation_steps m n) = omega (arith, wrote.place, length_each (violation_steps m n) stored) in
         let i : length (violation_steps m n) ≤ length room = omega arith in
-        rw (le-leb (length (violation_steps m n)) (length room) i) (ap (Found n) e);
+        rw (le-leb (length (violation_steps m n)) (length room) i) (ap (λ k. Ok (record { rounds = n; steps = k })) e);
     cells = wrote.cells;
   }
 
@@ -97,6 +98,6 @@ module _ (cells : List ℕ) {s : Shape} (read : s ≡ shape_in cells) where
   unfolding model_in
   ranked_by {n} {hs} {ts} = subst⁻¹ (λ (s : Shape). Ranked (of_lent s cells) n hs ts) read
 
-  pub written_by : {n : ℕ} {room room' : List ℕ} {r : Traced} → Written (of_lent s cells) n room r room' → Written (model_in cells) n room r room'
+  pub written_by : {n : ℕ} {room room' : List ℕ} {r : Result Traced TraceError} → Written (of_lent s cells) n room r room' → Written (model_in cells) n room r room'
   unfolding model_in
   written_by {n} {room} {room'} {r} = subst (λ (s : Shape). Written (of_lent s cells) n room r room') read

@@ -1,5 +1,5 @@
 -- What the trace call answers, by the document's numbers, and what it leaves in the lent arrays. It decides first, and then traces. Assumes nothing.
-use Rattle.std.specs.Prelude.{cond, List, [], ◌∷◌, ◌≡◌, ℕ, leb, length}
+use Rattle.std.specs.Prelude.{cond, List, [], ◌∷◌, ◌≡◌, ℕ, Result, Ok, Err, leb, length}
 use Rattle.std.proofs.lemmas.List.Edits.{sets}
 use Rattle.product.specs.Lists.{each}
 use Rattle.product.specs.Product.{stored}
@@ -8,22 +8,25 @@ use Rattle.product.specs.Verdict.{Verdict, violation, safe}
 use Rattle.product.specs.Trace.{trace_of}
 use Rattle.model.specs.declared.Model.{Model}
 use Rattle.model.specs.Model.{product_of}
-use Rattle.decide.specs.Decided.{decision, heads_left, triples_left}
+use Rattle.decide.specs.Decided.{undecided, decision, heads_left, triples_left}
 use Rattle.trace.specs.declared.Traced.{Traced}
-use Rattle.trace.specs.declared.Traced.TheVariants.{Found, Invalid, Short, Spent, Safe, Cut}
+use Rattle.trace.specs.declared.TraceError.{TraceError}
+use Rattle.trace.specs.declared.TraceError.TheVariants.{Undecided, Safe, Cut}
 
 -- a whole trace: the rounds of its verdict, and its number of steps
 pub data Trace : Type 0 where
   traced : (rounds steps : ℕ) → Trace
 
+-- the code's answer
+abbrev pub TraceAnswer : Type 0
+TraceAnswer = Result Traced TraceError
+
 -- the document's number and values of each answer; without a refusal, the whole trace
-abbrev pub meaning : Traced → Answer Trace
-meaning (Found n k) = answered (traced n k)
-meaning Invalid = refused 6 (0 ∷ [])
-meaning Short = refused 7 (0 ∷ [])
-meaning (Spent b) = refused 8 (b ∷ [])
-meaning (Safe n) = refused 9 (n ∷ [])
-meaning (Cut n room) = refused 10 (n ∷ room ∷ [])
+abbrev pub meaning : TraceAnswer → Answer Trace
+meaning (Ok t) = answered (traced t.rounds t.steps)
+meaning (Err (Undecided e)) = undecided e
+meaning (Err (Safe n)) = refused 9 (n ∷ [])
+meaning (Err (Cut n room)) = refused 10 (n ∷ room ∷ [])
 
 -- a trace of so many steps fits the room, or is cut
 abbrev pub fits : (rounds steps room : ℕ) → Answer Trace
@@ -42,7 +45,7 @@ steps_by m (refused number values) = []
 
 -- The contract: the answer r, and the arrays afterwards. The heads and triples are as the decision leaves them; in the room stand the steps from its
 -- first cell on, as far as it has cells, and every other cell is as it was.
-pub record Outcome (m : Model) (budget : ℕ) (hs ts room : List ℕ) (r : Traced) (hs' ts' room' : List ℕ) : Type 0 where
+pub record Outcome (m : Model) (budget : ℕ) (hs ts room : List ℕ) (r : TraceAnswer) (hs' ts' room' : List ℕ) : Type 0 where
   pub answer : meaning r ≡ traced_by m (length room) (decision m budget (length hs) (length ts))
   pub heads : hs' ≡ heads_left m budget hs ts
   pub triples : ts' ≡ triples_left m budget hs ts

@@ -1,5 +1,5 @@
 -- What an unfolding leaves in the room for steps: the steps from a place on, as far as they fit. Assumes nothing.
-use Rattle.std.specs.Prelude.{List, [], ◌≡◌, ℕ, suc, ◌+◌, ◌≤◌, ◌<◌, T, length}
+use Rattle.std.specs.Prelude.{List, [], ◌≡◌, ℕ, suc, ◌+◌, ◌≤◌, ◌<◌, T, length, Some, None}
 use Rattle.std.proofs.Math.Option.{Option}
 use Rattle.product.specs.Lists.{each}
 use Rattle.product.specs.Product.{Product, Step, stored}
@@ -9,8 +9,7 @@ use Rattle.product.specs.Table.{Table, ranks}
 use Rattle.product.specs.Trace.{explanation, trace}
 use Rattle.text.specs.Put.{Put}
 use Rattle.table.specs.Places.{fact_of}
-use Rattle.culprit.specs.declared.Goal.{Goal}
-use Rattle.culprit.specs.declared.Goal.TheVariants.{Nothing, Of}
+use Rattle.culprit.specs.Culprit.{Goal}
 
 -- the numbers of rules and moves can be stored, and the place is one of the room
 pub record Storable (rules moves at room : ℕ) : Type 0 where
@@ -25,12 +24,12 @@ pub record Explains (p : Product) (n : ℕ) (t : Table) (why : ℕ → Fact → 
 
 -- the fact that is asked for is held after round n; and its steps
 abbrev pub HeldFor : Product → ℕ → Goal → Type 0
-HeldFor p n Nothing = Unit {0}
-HeldFor p n (Of f) = T (held p n (fact_of f))
+HeldFor p n None = Unit {0}
+HeldFor p n (Some f) = T (held p n (fact_of f))
 
 abbrev pub steps_for : (Fact → List Step) → Goal → List Step
-steps_for t Nothing = []
-steps_for t (Of f) = t (fact_of f)
+steps_for t None = []
+steps_for t (Some f) = t (fact_of f)
 
 -- whatever product is explained, the trace of the fact was written
 pub record Unfolded (t : Table) (why : ℕ → Fact → Option Way) (f : Goal) (room : List ℕ) (at r : ℕ) (room' : List ℕ) : Type 0 where

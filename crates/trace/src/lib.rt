@@ -4,32 +4,46 @@
 ghost use Rattle.std.specs.Prelude.{◌≡◌, [], ◌∷◌, ◌+◌, ◌*◌, ◌<◌, length};
 ghost use Rattle.lent.specs.Lending.{shape_in, of_lent, model_in};
 ghost use Rattle.text.specs.Put.{Put};
-ghost use Rattle.explain.specs.Answers.{table_in, search_in};
+ghost use Rattle.table.specs.Looked.{ranks_in};
+ghost use Rattle.explain.specs.Answers.{search_in};
 ghost use Rattle.trace.specs.Unfold.{Storable, Unfolded};
 ghost use Rattle.trace.specs.Written.{Ranked, Written};
 ghost use Rattle.trace.specs.Outcome.{Outcome};
+ghost use Rattle.trace.specs.declared.TraceError.TheVariants.{Undecided};
 
-use culprit::Goal;
-use decide::Decision;
-use explain::{Counts, Found};
+use decide::{DecideError, Verdict};
+use explain::Counts;
 use lent::Lent;
 use model::Shape;
+use table::{Fact, Table};
 
-// The answer of the call: the trace was found, with its rounds and steps; or a refusal, whose number specs/Outcome.antt says.
-#[derive(Clone, Copy)]
-pub enum Traced {
-    Found { rounds: u16, steps: usize },
-    Invalid,
-    Short,
-    Spent(u32),
+// A whole trace: the rounds of its verdict, and its number of steps.
+#[derive(Clone, Copy, PartialEq, Eq, Debug)]
+pub struct Traced {
+    pub rounds: u16,
+    pub steps: usize,
+}
+
+// Why there is none, or not the whole of one. specs/Outcome.antt gives the document's number and values of each.
+#[derive(Clone, Copy, PartialEq, Eq, Debug)]
+pub enum TraceError {
+    Undecided(DecideError),
     Safe(u16),
     Cut { rounds: u16, room: usize },
+}
+
+impl From<DecideError> for TraceError {
+    ghost from_gives = { λ undecided e. e ≡ Undecided undecided };
+
+    fn from(undecided: DecideError) -> Self {
+        TraceError::Undecided(undecided)
+    }
 }
 
 // A run that is to be written: the fact whose run it is, or none, and the place of its first step.
 #[derive(Clone, Copy)]
 struct Run {
-    of: Goal,
+    of: Option<Fact>,
     at: usize,
 }
 
@@ -46,35 +60,24 @@ fn put(room: &mut [u16], at: usize, rule: usize, by: usize) -> usize
 }
 
 // Writes the steps of a run, and gives the place after them. Where it is cut already it ends at once: an unfolding can be exponential in the rank.
-fn unfold_fact<'a>(
-    room: &mut [u16],
-    m: &'a Lent,
-    heads: &'a [u16],
-    triples: &'a [u16],
-    n: Counts,
-    run: Run,
-) -> usize
+fn unfold_fact(room: &mut [u16], m: &Lent, table: &Table<'_>, n: Counts, run: Run) -> usize
     requires { Storable n.rules n.moves run.at (length room.old) }
-    ensures { Unfolded (table_in n heads.now triples.now) (search_in m.now n heads.now triples.now) run.of room.old run.at result room.new }
+    ensures { Unfolded (ranks_in table.now) (search_in m.now table.now n) run.of room.old run.at result room.new }
 {
     let at = run.at;
     if room.len() < at {
         return at;
     }
-    let f = run.of;
-    let w = explain::explain(m, heads, triples, n, f);
-    match w {
-        Found::Nowhere => at,
-        Found::By(c) => {
-            let of = c.before;
-            let here = unfold_fact(room, m, heads, triples, n, Run { of, at });
-            let at = put(room, here, c.rule, c.by);
-            let of = c.first;
-            let at = unfold_fact(room, m, heads, triples, n, Run { of, at });
-            let of = c.second;
-            unfold_fact(room, m, heads, triples, n, Run { of, at })
-        }
-    }
+    let Some(c) = explain::explain(m, table, n, run.of) else {
+        return at;
+    };
+    let of = c.before;
+    let here = unfold_fact(room, m, table, n, Run { of, at });
+    let at = put(room, here, c.rule, c.by);
+    let of = c.first;
+    let at = unfold_fact(room, m, table, n, Run { of, at });
+    let of = c.second;
+    unfold_fact(room, m, table, n, Run { of, at })
 }
 
 // The trace of a violation after n rounds, into the room, of a model whose shape was asked for.
@@ -85,31 +88,35 @@ fn write_trace<'a>(
     heads: &'a [u16],
     triples: &'a [u16],
     n: u16,
-) -> Traced
+) -> Result<Traced, TraceError>
     requires shape_value { shape ≡ shape_in m.now }
     requires ranked { Ranked (of_lent shape m.now) n heads.now triples.now }
     ensures { Written (of_lent shape m.now) n room.old result room.new }
 {
     let size = fitting::size_of(m);
+    let table = Table {
+        size,
+        heads,
+        triples,
+    };
     let q = shape.startstate as usize;
     let g = shape.startsymbol as usize;
-    let of = culprit::culprit(m, heads, triples, size, q, g);
+    let of = culprit::culprit(m, &table, q, g);
     let counts = Counts {
-        size,
         rules: shape.rules,
         moves: shape.moves,
     };
-    let at = unfold_fact(room, m, heads, triples, counts, Run { of, at: 0 });
+    let at = unfold_fact(room, m, &table, counts, Run { of, at: 0 });
     if room.len() < at {
-        return Traced::Cut {
+        return Err(TraceError::Cut {
             rounds: n,
             room: room.len(),
-        };
+        });
     }
-    Traced::Found {
+    Ok(Traced {
         rounds: n,
         steps: at,
-    }
+    })
 }
 
 // Decides a model within a budget of rounds, and then writes the trace of a violation into the room, as far as it fits. A room of 0 cells is a room.
@@ -119,18 +126,15 @@ pub fn trace(
     heads: &mut [u16],
     triples: &mut [u16],
     room: &mut [u16],
-) -> Traced
+) -> Result<Traced, TraceError>
     ensures { Outcome (model_in m.now) budget heads.old triples.old room.old result heads.new triples.new room.new }
 {
-    let d = decide::decide(m, budget, heads, triples);
-    match d {
-        Decision::Violation(n) => {
+    let verdict = decide::decide(m, budget, heads, triples)?;
+    match verdict {
+        Verdict::Violation(n) => {
             let shape = lent::shape(m);
             write_trace(room, shape, m, heads, triples, n)
         }
-        Decision::Safe(n) => Traced::Safe(n),
-        Decision::Invalid => Traced::Invalid,
-        Decision::Short => Traced::Short,
-        Decision::Spent(b) => Traced::Spent(b),
+        Verdict::Safe(n) => Err(TraceError::Safe(n)),
     }
 }

@@ -1,22 +1,21 @@
 -- The lines of steps as they grow, and that they depend on the steps that they name alone. Assumes nothing.
 use mathlib.Core.Bool.{Bool, true, false}
 use mathlib.Core.List.{List, [], ◌∷◌, ◌++◌}
-use mathlib.Core.Path.{◌≡◌, refl, ap, ap₂, sym, ◌∙◌, subst}
+use mathlib.Core.Path.{◌≡◌, refl, ap, ap₂, sym, ◌∙◌}
 use Prim.Native.Nat.{ℕ, zero, suc, ◌+◌, ◌/◌, ◌%◌, ◌<◌, ◌≤◌, min}
 use native.Mathlib.Numerals.{add-one}
 use native.Mathlib.Omega.{arith}
-use lib.ListN.{length, get_or, set}
-use lib.Seq.{sets}
+use lib.ListN.{length, get_or, set, take}
+use lib.Seq.{sets, get_or-take, length-take-le}
 use Rattle.product.specs.Lists.{up_to, over}
 use Rattle.product.specs.Product.{Product, loaded}
 use Rattle.product.proofs.Lists.{over_suc}
 use Rattle.model.specs.declared.Model.{Model}
 use Rattle.model.specs.declared.Rule.{Rule}
-use Rattle.model.specs.declared.Next.{Next}
-use Rattle.model.specs.declared.Next.TheVariants.{To}
-use Rattle.model.specs.Answers.{rule_as, meant, next_as, landed}
+use Rattle.std.proofs.Math.Option as theory
+use Rattle.std.specs.Prelude.{Option, Some, None, unwrap_or}
+use Rattle.model.specs.Answers.{rule_as, meant, next_as}
 use Rattle.model.proofs.Answers.{meant_as}
-use Rattle.model.proofs.Bounds.{landed_as}
 use Rattle.lent.specs.Lending.{InByte}
 use Rattle.print.specs.Bytes.{line_bytes, named_bytes}
 use Rattle.text.specs.Put.{Put}
@@ -25,7 +24,6 @@ use Rattle.product.proofs.Lists.{over_alike}
 use Rattle.model.specs.Model.{product_of}
 use Rattle.violation.specs.Words.{violation_word, step_word, cut_word}
 use Rattle.violation.specs.Bytes.{room, shown, kind_of, or_stay, stepped, state_after, step_line, step_lines, first_line, violation_bytes}
-use Rattle.violation.specs.Steps.{Steps}
 
 -- one line more
 module _ (p : Product) (steps : List ℕ) where
@@ -50,11 +48,26 @@ module _ (p : Product) (steps : List ℕ) where
 
 -- the state after a step, by what was answered
 module _ (p : Product) (step q : ℕ) where
-  pub asked : {n n' : Next} → n ≡ next_as (p.next (loaded step) q) → n ≡ n' → or_stay q (landed n') ≡ stepped p step q
-  asked e f = ap (λ n. or_stay q (landed n)) (sym f ∙ e) ∙ ap (or_stay q) (landed_as (p.next (loaded step) q))
+  pub asked : {n : Option ℕ} → n ≡ next_as (p.next (loaded step) q) → unwrap_or n q ≡ stepped p step q
+  asked e = ap (λ n. unwrap_or n q) e ∙ go (p.next (loaded step) q)
+    where
+      go : (o : theory.Option ℕ) → unwrap_or (next_as o) q ≡ or_stay q o
+      go theory.none = refl
+      go (theory.some q') = refl
 
-pub in_byte : {n : Next} {q : ℕ} → InByte n → n ≡ To q → q ≤ 255
-in_byte h e = subst InByte e h
+pub in_byte : (n : Option ℕ) {q : ℕ} → InByte n → q ≤ 255 → unwrap_or n q ≤ 255
+in_byte None h l = l
+in_byte (Some q') h l = h
+
+-- two lists whose first n steps are the same
+states_alike : (p : Product) (s t : List ℕ) (n : ℕ) → ((i : ℕ) → i < n → get_or s i 0 ≡ get_or t i 0) → state_after p s n ≡ state_after p t n
+states_alike p s t zero same = refl
+states_alike p s t (suc n) same = ap₂ (stepped p) (same n (omega arith)) (states_alike p s t n (λ i z. same i (omega arith)))
+
+lines_alike : (p : Product) (s t : List ℕ) (n : ℕ) → ((i : ℕ) → i < n → get_or s i 0 ≡ get_or t i 0) → step_lines p s n ≡ step_lines p t n
+unfolding step_lines
+lines_alike p s t n same =
+    over_alike n (line p s) (line p t) (λ i z. ap₂ (step_line p (i + 1)) (same i z) (states_alike p s t (suc i) (λ j y. same j (omega arith))))
 
 -- what stands in a room after steps were put into it
 sets_cons : (x : ℕ) (l : List ℕ) (at : ℕ) (s : List ℕ) → sets (x ∷ l) (suc at) s ≡ x ∷ sets l at s
@@ -67,15 +80,12 @@ get_d_sets (y ∷ l) (x ∷ s) (suc i) h k = ap (λ o. get_or o (suc i) 0) (sets
 get_d_sets (y ∷ l) [] i h k = absurd (omega arith)
 get_d_sets [] s i h k = absurd (omega arith)
 
-states_same : (p : Product) (l s : List ℕ) (i : ℕ) → i ≤ length l → i ≤ length s → state_after p (sets l 0 s) i ≡ state_after p s i
-states_same p l s zero h k = refl
-states_same p l s (suc i) h k = ap₂ (stepped p) (get_d_sets l s i (omega arith) (omega arith)) (states_same p l s i (omega arith) (omega arith))
-
 pub lines_same : (p : Product) (l s : List ℕ) (n : ℕ) → n ≤ length l → n ≤ length s → step_lines p (sets l 0 s) n ≡ step_lines p s n
-unfolding step_lines
-lines_same p l s n h k =
-    over_alike n (line p (sets l 0 s)) (line p s)
-    (λ i z. ap₂ (step_line p (i + 1)) (get_d_sets l s i (omega arith) (omega arith)) (states_same p l s (suc i) (omega arith) (omega arith)))
+lines_same p l s n h k = lines_alike p (sets l 0 s) s n (λ i z. get_d_sets l s i (omega arith) (omega arith))
+
+-- the first n steps of those that are cut to n
+pub lines_cut : (p : Product) (steps : List ℕ) (n : ℕ) → step_lines p (take n steps) n ≡ step_lines p steps n
+lines_cut p steps n = lines_alike p (take n steps) steps n (λ i z. get_or-take n steps i 0 z)
 
 -- the line of a step, by the rule that was read
 pub step_put : {o o' : List ℕ} {a b : ℕ} (p : Product) (number step state : ℕ) {rule : Rule} → rule ≡ rule_as (p.rule (step / 128))
@@ -100,14 +110,18 @@ unfolding first_line
 cut_put rounds n e x = first_put rounds n e x
 
 -- how many steps are printed
-module _ (there count : ℕ) {k n : ℕ} (e : k ≡ min there room) (f : n ≡ min count k) where
-  pub shown_steps : Steps there n
-  shown_steps = record { within = omega arith; few = omega arith }
+module _ (there count : ℕ) {k n : ℕ} (e : k ≡ min count there) (f : n ≡ min k room) where
+  pub shown_there : n ≤ there
+  shown_there = omega arith
 
   is_shown : n ≡ shown there count
-  is_shown = f ∙ ap (min count) e
+  is_shown = omega arith
 
 -- the first line and the others
-pub violation_put : {o p q : List ℕ} {a b c : ℕ} (m : Model) (whole : Bool) (rounds : ℕ) (steps : List ℕ) (count : ℕ) {k n : ℕ} → k ≡ min (length steps) room → n ≡ min count k
-    → Put o p a b (first_line whole rounds n) → Put p q b c (step_lines (product_of m) steps n) → Put o q a c (violation_bytes m whole rounds steps (shown (length steps) count))
-violation_put m whole rounds steps count e f x y = as_put (ap (violation_bytes m whole rounds steps) (is_shown (length steps) count e f)) (then_put x y)
+pub violation_put : {o p q : List ℕ} {a b c : ℕ} (m : Model) (whole : Bool) (rounds : ℕ) (steps : List ℕ) (count : ℕ) {k n : ℕ} → k ≡ min count (length steps) → n ≡ min k room
+    → Put o p a b (first_line whole rounds n) → Put p q b c (step_lines (product_of m) (take n steps) (length (take n steps)))
+    → Put o q a c (violation_bytes m whole rounds steps (shown (length steps) count))
+violation_put m whole rounds steps count {k} {n} e f x y =
+    let few : length (take n steps) ≡ n = length-take-le n steps (shown_there (length steps) count e f) in
+    let lines = ap (step_lines (product_of m) (take n steps)) few ∙ lines_cut (product_of m) steps n in
+    as_put (ap (violation_bytes m whole rounds steps) (is_shown (length steps) count e f)) (then_put x (as_put lines y))

@@ -1,4 +1,3 @@
 -- A violation with its trace, as bytes. Assumes nothing.
 pub mod Words
 pub mod Bytes
-pub mod Steps

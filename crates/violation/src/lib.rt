@@ -1,17 +1,16 @@
 // Puts a violation: its rounds, and a line for each step of its trace.
 #![tactic(auto)]
 
-ghost use Rattle.std.specs.Prelude.{◌≡◌, ℕ, ◌≤◌, min, length};
+ghost use Rattle.std.specs.Prelude.{◌≡◌, ℕ, ◌≤◌, length};
 ghost use Rattle.lent.specs.Lending.{model_in, product_in};
 ghost use Rattle.model.specs.Answers.{meant};
 ghost use Rattle.print.specs.Bytes.{named_bytes};
 ghost use Rattle.text.specs.Put.{Put};
 ghost use Rattle.violation.specs.Words.{step_word};
-ghost use Rattle.violation.specs.Bytes.{shown, kind_of, stepped, step_line, step_lines, first_line, violation_bytes};
-ghost use Rattle.violation.specs.Steps.{Steps};
+ghost use Rattle.violation.specs.Bytes.{room, shown, kind_of, stepped, step_line, step_lines, first_line, violation_bytes};
 
 use lent::Lent;
-use model::{Next, Rule};
+use model::Rule;
 
 // The steps of a trace that are printed at most.
 pub const ROOM: usize = 4096;
@@ -23,10 +22,7 @@ fn state_after(m: &Lent, step: u16, q: usize) -> usize
     ensures upper_bound { result ≤ 255 }
 {
     let next = lent::next_state(m, (step / 128) as usize, (step % 128) as usize, q);
-    match next {
-        Next::Stuck => q,
-        Next::To(to) => to,
-    }
+    next.unwrap_or(q)
 }
 
 // Puts the line of a step with these numbers, by this rule.
@@ -51,19 +47,17 @@ fn put_step(out: &mut [u8], at: usize, m: &Lent, number: u16, step: u16, state: 
     put_by(out, at, &row, rule)
 }
 
-// Puts the lines of the first `count` steps, numbered from 1, with the states of their run.
-fn put_steps(out: &mut [u8], at: usize, m: &Lent, steps: &[u16], count: usize) -> usize
-    requires { Steps (length steps.now) count }
-    ensures { Put out.old out.new at result (step_lines (product_in m.now) steps.now count) }
+// Puts the lines of the steps, numbered from 1, with the states of their run.
+fn put_steps(out: &mut [u8], at: usize, m: &Lent, steps: &[u16]) -> usize
+    requires { length steps.now ≤ room }
+    ensures { Put out.old out.new at result (step_lines (product_in m.now) steps.now (length steps.now)) }
 {
     let shape = lent::shape(m);
     let mut q = shape.startstate as usize;
     let mut next = print::place(out.len(), at);
-    let mut i: usize = 0;
-    while i < count {
-        q = state_after(m, steps[i], q);
-        next = put_step(out, next, m, (i + 1) as u16, steps[i], q as u16);
-        i += 1;
+    for (i, step) in steps.iter().enumerate() {
+        q = state_after(m, *step, q);
+        next = put_step(out, next, m, (i + 1) as u16, *step, q as u16);
     }
     next
 }
@@ -80,15 +74,6 @@ fn put_first(out: &mut [u8], whole: bool, rounds: u16, count: u16) -> usize
     print::put_named(out, 0, b"violation", &row, b"cut")
 }
 
-fn least(a: usize, b: usize) -> usize
-    ensures { result ≡ min a b }
-{
-    if a < b {
-        return a;
-    }
-    b
-}
-
 // Puts a violation of whose trace the first `count` steps are there: all of them, or as many as were not cut.
 pub fn put_violation(
     out: &mut [u8],
@@ -100,7 +85,7 @@ pub fn put_violation(
 ) -> usize
     ensures { Put out.old out.new 0 result (violation_bytes (model_in m.now) whole rounds steps.now (shown (length steps.now) count)) }
 {
-    let n = least(count, least(steps.len(), ROOM));
+    let n = count.min(steps.len()).min(ROOM);
     let next = put_first(out, whole, rounds, n as u16);
-    put_steps(out, next, m, steps, n)
+    put_steps(out, next, m, &steps[..n])
 }

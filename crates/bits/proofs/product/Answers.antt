@@ -7,16 +7,16 @@ use Rattle.bits.proofs.product.Goals as goal
 
 pub loop-k-init : goal.loop-k-init
 unfolding summed
-loop-k-init c = (omega arith, refl)
+loop-k-init c = refl
 
 pub overflow_mul-c : goal.overflow_mul-c
 overflow_mul-c c = met_fits c.args.a c.args.b c.loop-k.k
 
 pub loop-k-preserved : goal.loop-k-preserved
 unfolding summed
-loop-k-preserved c = (omega arith, rw add-one (ap (λ n. bit_or n (met c.args.a c.args.b c.loop-k.k)) c.loop-k.invariant.1))
+loop-k-preserved c = rw add-one (ap (λ n. bit_or n (met c.args.a c.args.b c.loop-k.k)) c.loop-k.invariant)
 
 pub returns : goal.returns
 returns c =
     let e : c.loop-k.k ≡ 8 = omega arith in
-    (rw e at c.loop-k.invariant.1) ∙ summed_is _ _
+    (rw e at c.loop-k.invariant) ∙ summed_is _ _

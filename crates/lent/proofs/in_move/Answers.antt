@@ -11,4 +11,7 @@ returns-then-v-ge128 c = let a = c.args in record { value = past_part a.m.now 10
 pub returns : goal.returns
 returns c =
     let a = c.args in
-    record { value = c.wide.ensures.0 ∙ in_part a.m.now 1024 384 (a.v * 3 + a.i) _ (omega arith) (omega arith); upper_bound = c.wide.ensures.1 }
+    record {
+      value = c.from.ensures ∙ in_part a.m.now 1024 384 (a.v * 3 + a.i) _ (omega arith) (omega arith);
+      upper_bound = omega (arith, c.from.ensures, c.fits-m (1024 + a.v * 3 + a.i));
+    }

@@ -1,5 +1,5 @@
--- `numbers::read_digits` meets its contract. The loop's invariant: what was read, with what is left, spells the number that was asked for; what is left falls. Assumes nothing.
-use Prim.Native.Nat.{◌+◌, ◌≤◌, ◌<◌, ◌-◌, ◌^◌}
+-- `numbers::read_digits` meets its contract. The loop's invariant: what was read, with what is left, spells the number that was asked for. Assumes nothing.
+use Prim.Native.Nat.{◌+◌, ◌≤◌, ◌<◌, ◌^◌}
 use mathlib.Core.Path.{◌≡◌}
 use lib.ListN.{length, drop}
 use Rattle.numbers.specs.Number.{spelled}
@@ -7,7 +7,4 @@ use Rattle.numbers.specs.Field.{field}
 use Rattle.numbers.proofs.read_digits.Given as goal
 
 abbrev pub invariant-loop-count : goal.invariant-loop-count
-invariant-loop-count l = (l.count ≤ length l.s) × (l.count ≤ 6) × (l.value < 10 ^ l.count) × (spelled l.value (field (drop l.count l.s)) ≡ spelled 0 (field l.s)) × (l.count + length (field (drop l.count l.s)) ≡ length (field l.s))
-
-abbrev pub decreases-loop-count : goal.decreases-loop-count
-decreases-loop-count l = length l.s - l.count
+invariant-loop-count l = (l.count ≤ 6) × (l.value < 10 ^ l.count) × (spelled l.value (field (drop l.count l.s)) ≡ spelled 0 (field l.s)) × (l.count + length (field (drop l.count l.s)) ≡ length (field l.s))

@@ -3,8 +3,8 @@ use lib.ListN.{length}
 use Rattle.numbers.proofs.Fields.{Turn}
 use Rattle.numbers.proofs.read_fields.Given as goal
 
-abbrev pub invariant-loop-v : goal.invariant-loop-v
-invariant-loop-v l = Turn l.s (record { count = l.count; at = l.at }) l.rest
+abbrev pub invariant-loop-f : goal.invariant-loop-f
+invariant-loop-f l = Turn l.s (record { count = l.count; at = l.at }) l.rest
 
-abbrev pub decreases-loop-v : goal.decreases-loop-v
-decreases-loop-v l = length l.rest
+abbrev pub decreases-loop-f : goal.decreases-loop-f
+decreases-loop-f l = length l.rest

@@ -1,20 +1,17 @@
 use lib.Seq.{take_all}
 use Rattle.text.proofs.Puts.{none_put, then_put, as_put, put_length}
 use Rattle.print.proofs.Puts.{take_more}
-use borrow.Author.Rules.{rules}
 use native.Mathlib.Omega.{arith}
 use Rattle.print.proofs.put_all.Goals as goal
 
-pub loop-i-init : goal.loop-i-init
-loop-i-init c = (search rules, none_put _ _ c.place-next.ensures)
+pub loop-b-init : goal.loop-b-init
+loop-b-init c = none_put _ _ c.place-next.ensures
 
-pub loop-i-preserved : goal.loop-i-preserved
-loop-i-preserved c =
-    let a = c.args in
-    (search rules, as_put (take_more a.s.now c.loop-i.i (omega arith)) (then_put c.loop-i.invariant.1 c.put-next.ensures))
+pub loop-b-preserved : goal.loop-b-preserved
+loop-b-preserved c = as_put (take_more c.args.s.now c.loop-b.b-index (omega arith)) (then_put c.loop-b.invariant c.put-next.ensures)
 
 pub shape_of-out : goal.shape_of-out
-shape_of-out c = put_length c.loop-i.invariant.1
+shape_of-out c = put_length c.loop-b.invariant
 
 pub returns : goal.returns
-returns c = as_put (take_all c.loop-i.i c.args.s.now (omega arith)) c.loop-i.invariant.1
+returns c = as_put (take_all c.loop-b.b-index c.args.s.now (omega arith)) c.loop-b.invariant

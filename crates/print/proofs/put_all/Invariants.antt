@@ -1,11 +1,7 @@
--- `print::put_all` meets its contract. The loop's invariant: the first i bytes are put; those that are left fall. Assumes nothing.
-use Prim.Native.Nat.{◌-◌, ◌≤◌}
-use lib.ListN.{length, take}
+-- `print::put_all` meets its contract. The loop's invariant: the bytes before b are put. Assumes nothing.
+use lib.ListN.{take}
 use Rattle.text.specs.Put.{Put}
 use Rattle.print.proofs.put_all.Given as goal
 
-abbrev pub invariant-loop-i : goal.invariant-loop-i
-invariant-loop-i l = (l.i ≤ length l.s) × Put l.initial.out l.out l.at l.next (take l.i l.s)
-
-abbrev pub decreases-loop-i : goal.decreases-loop-i
-decreases-loop-i l = length l.s - l.i
+abbrev pub invariant-loop-b : goal.invariant-loop-b
+invariant-loop-b l = Put l.initial.out l.out l.at l.next (take l.b-index l.s)

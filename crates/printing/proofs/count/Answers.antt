@@ -2,22 +2,21 @@ use mathlib.Core.Path.{◌≡◌, sym, ap, ◌∙◌}
 use lib.ListN.{length}
 use Prim.Native.Nat.{◌+◌}
 use Rattle.printing.proofs.Bytes.{count_none, count_more, present_same}
-use borrow.Author.Rules.{rules}
 use native.Mathlib.Omega.{arith}
 use Rattle.printing.proofs.count.Goals as goal
-use Rattle.printing.proofs.count.Goals.{then-cells-i, else-cells-i}
+use Rattle.printing.proofs.count.Goals.{then-rank, else-rank}
 
-pub loop-i-init : goal.loop-i-init
-loop-i-init c = (search rules, search rules, count_none _)
+pub loop-rank-init : goal.loop-rank-init
+loop-rank-init c = (omega arith, count_none _)
 
-pub loop-i-preserved : goal.loop-i-preserved
-loop-i-preserved c =
-    let l = c.loop-i in
+pub loop-rank-preserved : goal.loop-rank-preserved
+loop-rank-preserved c =
+    let l = c.loop-rank in
     let cells = c.args.cells.now in
-    elim c.if-cells-i.branch [
-      | then-cells-i w ↦ (search rules, omega arith, w.present-is ∙ ap (λ n. n + 1) l.invariant.2 ∙ sym (count_more cells l.i w.if-cells-i.true))
-      | else-cells-i w ↦ (search rules, omega arith, w.present-is ∙ l.invariant.2 ∙ ap length (sym (present_same cells l.i w.if-cells-i.false)))
+    elim c.if-rank.branch [
+      | then-rank w ↦ (omega arith, w.present-is ∙ ap (λ n. n + 1) l.invariant.1 ∙ sym (count_more cells l.rank-index w.if-rank.true))
+      | else-rank w ↦ (omega arith, w.present-is ∙ l.invariant.1 ∙ ap length (sym (present_same cells l.rank-index w.if-rank.false)))
     ]
 
 pub returns : goal.returns
-returns c = let l = c.loop-i in let e : l.i ≡ c.args.n = omega arith in rw (← e) l.invariant.2
+returns c = let e : c.loop-rank.rank-index ≡ length c.args.cells.now = omega arith in rw (← e) c.loop-rank.invariant.1

@@ -1,11 +1,10 @@
 -- `ranking::rank_head` meets its contract. Assumes nothing.
-use native.Mathlib.Omega.{arith}
+use Rattle.line.specs.declared.fault.Fault.TheVariants.{Malformed}
 use Rattle.ranking.proofs.Faults.{miscounted, well_counted, not_ranked}
 use Rattle.ranking.proofs.rank_head.Goals as goal
 
 pub returns-then-n-ne3 : goal.returns-then-n-ne3
-returns-then-n-ne3 c = not_ranked (miscounted _ _ _ c.if-n-ne3.true) (λ e. omega arith)
+returns-then-n-ne3 c = not_ranked Malformed (miscounted _ _ _ c.if-n-ne3.true)
 
 pub returns : goal.returns
-returns c =
-    well_counted _ _ _ c.if-n-ne3.false c.rank_fact.ensures
+returns c = well_counted _ _ _ c.if-n-ne3.false c.rank_fact.ensures

@@ -1,9 +1,10 @@
-use mathlib.Core.Path.{ap, ◌∙◌}
-use Rattle.text.proofs.Split.{after_shorter}
-use Rattle.draft.proofs.Laid.{same_refusal, stands_next}
-use Rattle.reader.specs.Reading.{meaning}
+use mathlib.Core.Path.{refl, sym}
+use borrow.Author.Tests.{eqb-true, eqb-false}
+use Rattle.line.specs.declared.fault.TextError.TheVariants.{Line}
+use Rattle.line.proofs.Faults.{number_within}
+use Rattle.draft.proofs.Laid.{same_refusal, no_refusal, stands_next}
 use Rattle.reader.proofs.Turns.{first_turn, refused_turn, next_turn, open_line, done}
-use Rattle.reader.proofs.Leaves.{first_stands, refused_read, line_numbered}
+use Rattle.reader.proofs.Leaves.{first_stands, refused_read}
 use native.Mathlib.Omega.{arith}
 use Rattle.reader.proofs.read_lines.Goals as goal
 
@@ -14,17 +15,15 @@ loop-left-init c =
 pub returns-then-left-e : goal.returns-then-left-e
 returns-then-left-e c =
     let (d, _, t) = c.loop-left.invariant in
-    refused_read (open_line t c.read_line-l.ensures c.loop-left-test.true c.if-left-e.true) (λ m. ap (λ r. meaning r m) c.refuse.ensures.0) c.refuse.ensures.1
+    let some = eqb-false _ 0 (sym c.loop-left-test.ensures) in
+    refused_read _ (open_line t c.read_line-l.ensures (omega arith) c.if-left-e.true)
 
-pub numbered-requires : goal.numbered-requires
-numbered-requires c =
-    line_numbered c.take_line-t.ensures c.if-refusal-ne0.true
-
-pub returns-then-refusal-ne0 : goal.returns-then-refusal-ne0
-returns-then-refusal-ne0 c =
+pub returns-in-Err : goal.returns-in-Err
+returns-in-Err c =
     let (d, s, t) = c.loop-left.invariant in
-    refused_read (refused_turn t c.read_line-l.ensures c.if-left-e.false (same_refusal s c.take_line-t.ensures) c.if-refusal-ne0.true)
-    (λ m. ap (λ r. meaning r m) c.refuse-then-refusal-ne0.ensures.0 ∙ c.numbered.ensures m) c.refuse-then-refusal-ne0.ensures.1
+    let fault = c.in-Err.fault in
+    let (low, _) = number_within fault in
+    refused_read (Line fault c.loop-left.n) (refused_turn t c.read_line-l.ensures c.if-left-e.false (same_refusal s _ fault c.in-Err.ensures) (λ z. omega arith))
 
 pub overflow_add-n : goal.overflow_add-n
 overflow_add-n c =
@@ -33,25 +32,16 @@ overflow_add-n c =
     let text = c.requires.text_len_bound in
     omega (arith, r, text)
 
-pub overflow_add-b : goal.overflow_add-b
-overflow_add-b c = omega arith
-
-pub slice_bounds-left-count : goal.slice_bounds-left-count
-slice_bounds-left-count c = omega arith
-
-pub loop-left-smaller : goal.loop-left-smaller
-loop-left-smaller c =
-    after_shorter _ c.loop-left.left.now c.if-left-e.false
-
 pub loop-left-preserved : goal.loop-left-preserved
 loop-left-preserved c =
     let (d, s, t) = c.loop-left.invariant in (
       _,
-      stands_next s c.take_line-t.ensures c.if-refusal-ne0.false,
-      next_turn t c.read_line-l.ensures c.if-left-e.false (same_refusal s c.take_line-t.ensures) c.if-refusal-ne0.false,
+      stands_next s _ c.in-Ok.ensures,
+      next_turn t c.read_line-l.ensures c.if-left-e.false (no_refusal s _ c.in-Ok.ensures) refl,
     )
 
 pub returns : goal.returns
 returns c =
     let (d, s, t) = c.loop-left.invariant in
-    rw (done t c.loop-left-test.false) (c.finish.ensures d s)
+    let none = eqb-true _ 0 (sym c.loop-left-test.ensures) in
+    rw (done t (omega arith)) (c.finish.ensures d s)

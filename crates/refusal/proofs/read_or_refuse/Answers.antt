@@ -1,15 +1,14 @@
 -- `refusal::read_or_refuse` meets its contract. Assumes nothing.
-use Rattle.text.proofs.Puts.{put_length}
-use Rattle.refusal.proofs.Reading.{line_fits, seeing}
+use mathlib.Core.Path.{◌∙◌}
+use native.Mathlib.Omega.{arith}
+use Rattle.refusal.proofs.Reading.{line_fits, seeing, refusing}
 use Rattle.refusal.proofs.read_or_refuse.Goals as goal
 
-pub put_reading-end-requires : goal.put_reading-end-requires
-put_reading-end-requires c =
-    line_fits c.args.text.now c.read_model-reading.ensures
+pub returns-in-Ok : goal.returns-in-Ok
+returns-in-Ok c = seeing c.args.text.now c.in-Ok.ensures _
 
-pub shape_of-out : goal.shape_of-out
-shape_of-out c = put_length c.put_reading-end.ensures
+pub returns-in-Err : goal.returns-in-Err
+returns-in-Err c = refusing c.args.text.now c.in-Err.ensures (c.from.ensures ∙ c.number.ensures) c.line.ensures c.put_refused.ensures
 
-pub returns : goal.returns
-returns c =
-    seeing c.args.text.now c.read_model-reading.ensures c.is_accepted-accepted.ensures c.put_reading-end.ensures
+pub overflow_cast-line : goal.overflow_cast-line
+overflow_cast-line c = let l = c.line.ensures in omega (arith, line_fits c.args.text.now c.in-Err.ensures)

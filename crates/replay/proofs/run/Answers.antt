@@ -6,6 +6,7 @@ use borrow.Author.Rules.{rules}
 use Rattle.lent.specs.Lending.{model_in}
 use Rattle.replay.proofs.Running.{ready, begins_lent, ran_lent, blocked, turns, finished}
 use Rattle.replay.proofs.run.Goals as goal
+use Rattle.replay.proofs.run.Goals.{in-Moved, in-Arrived}
 
 pub loop-k-init : goal.loop-k-init
 loop-k-init c =
@@ -30,15 +31,13 @@ returns-in-Blocked c =
     ran_lent a.m.now a.steps.now a.stack.now c.shape-s.ensures
     (blocked (model_in a.m.now) a.steps.now c.loop-k.invariant (search rules) c.step-outcome.ensures c.in-Blocked.is)
 
-pub loop-k-preserved-in-Moved : goal.loop-k-preserved-in-Moved
-loop-k-preserved-in-Moved c =
-    let a = c.args in
-    turns (model_in a.m.now) a.steps.now c.loop-k.invariant (search rules) c.step-outcome.ensures c.step-outcome.auto.stack false c.in-Moved.is
-
 pub loop-k-preserved : goal.loop-k-preserved
 loop-k-preserved c =
     let a = c.args in
-    turns (model_in a.m.now) a.steps.now c.loop-k.invariant (search rules) c.step-outcome.ensures c.step-outcome.auto.stack true c.in-Arrived.is
+    elim c.match-outcome.branch [
+      | in-Moved w ↦ rw (w.at-is, w.accepting-is) (turns (model_in a.m.now) a.steps.now c.loop-k.invariant (search rules) c.step-outcome.ensures c.step-outcome.auto.stack false w.in-Moved.is)
+      | in-Arrived w ↦ rw (w.at-is, w.accepting-is) (turns (model_in a.m.now) a.steps.now c.loop-k.invariant (search rules) c.step-outcome.ensures c.step-outcome.auto.stack true w.in-Arrived.is)
+    ]
 
 pub shape_of-stack-then-accepting : goal.shape_of-stack-then-accepting
 shape_of-stack-then-accepting c =

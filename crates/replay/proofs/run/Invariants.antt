@@ -1,13 +1,8 @@
--- `replay::run` meets its contract. The loop's invariant is `Doing`: what is left to replay, from where the machine stands, gives what was asked; the steps
--- that are left fall. Assumes nothing.
-use Prim.Native.Nat.{◌-◌}
-use lib.ListN.{length}
+-- `replay::run` meets its contract. The loop's invariant is `Doing`: what is left to replay, from where the machine stands, gives what was asked.
+-- Assumes nothing.
 use Rattle.lent.specs.Lending.{model_in}
 use Rattle.replay.proofs.Running.{Doing}
 use Rattle.replay.proofs.run.Given as goal
 
 abbrev pub invariant-loop-k : goal.invariant-loop-k
 invariant-loop-k l = Doing (model_in l.m) l.steps l.initial.stack l.k l.at l.accepting l.stack
-
-abbrev pub decreases-loop-k : goal.decreases-loop-k
-decreases-loop-k l = length l.steps - l.k

@@ -20,19 +20,19 @@ overflow_cast-top c =
 pub replace-requires : goal.replace-requires
 replace-requires c =
     let a = c.args in
-    top_room c.requires (loaded a.n) a.number a.at.state (search rules) c.goes-next.ensures c.in-To.is c.rule_at-rule.ensures
+    top_room c.requires (loaded a.n) a.number a.at.state (search rules) c.goes-next.ensures c.in-Some.is c.rule_at-rule.ensures
 
 pub returns-then-is_final : goal.returns-then-is_final
 returns-then-is_final c =
     let a = c.args in
-    stepped c.requires (loaded a.n) a.number a.at.state (search rules) c.goes-next.ensures c.in-To.is c.rule_at-rule.ensures c.replace.ensures c.is_final.ensures true c.if-is_final.true
+    stepped c.requires (loaded a.n) a.number a.at.state (search rules) c.goes-next.ensures c.in-Some.is c.rule_at-rule.ensures c.replace.ensures c.is_final.ensures true c.if-is_final.true
 
-pub returns-in-Stuck : goal.returns-in-Stuck
-returns-in-Stuck c =
+pub returns-in-None : goal.returns-in-None
+returns-in-None c =
     let a = c.args in
-    stuck c.requires (loaded a.n) a.number a.at.state (search rules) c.goes-next.ensures c.in-Stuck.is
+    stuck c.requires (loaded a.n) a.number a.at.state (search rules) c.goes-next.ensures c.in-None.is
 
 pub returns-else-is_final : goal.returns-else-is_final
 returns-else-is_final c =
     let a = c.args in
-    stepped c.requires (loaded a.n) a.number a.at.state (search rules) c.goes-next.ensures c.in-To.is c.rule_at-rule.ensures c.replace.ensures c.is_final.ensures false c.if-is_final.false
+    stepped c.requires (loaded a.n) a.number a.at.state (search rules) c.goes-next.ensures c.in-Some.is c.rule_at-rule.ensures c.replace.ensures c.is_final.ensures false c.if-is_final.false

@@ -1,5 +1,5 @@
 -- `rereport::recheck_text` meets its contract. Assumes nothing.
-use mathlib.Core.Path.{◌∙◌}
+use mathlib.Core.Path.{refl, ◌∙◌}
 use Rattle.text.proofs.Puts.{put_length}
 use Rattle.splitter.proofs.Place.{place_within, model_front, model_length, listing_rest}
 use Rattle.refusal.proofs.Reading.{model_valid}
@@ -22,23 +22,21 @@ slice_bounds-put_listing-start c =
     place_within t c.listing_at-at.ensures
 
 pub put_listing-requires : goal.put_listing-requires
-put_listing-requires c =
-    model_valid c.read_or_refuse-seen.ensures c.if-seen.true
+put_listing-requires c = model_valid c.in-Ok.ensures refl
 
-pub shape_of-out-then-seen : goal.shape_of-out-then-seen
-shape_of-out-then-seen c =
-    put_length c.put_listing.ensures ∙ put_length c.read_or_refuse-seen.ensures.puts
+pub shape_of-out-in-Ok : goal.shape_of-out-in-Ok
+shape_of-out-in-Ok c = put_length c.put_listing.ensures ∙ put_length c.in-Ok.ensures.puts
 
-pub returns-then-seen : goal.returns-then-seen
-returns-then-seen c =
+pub returns-in-Ok : goal.returns-in-Ok
+returns-in-Ok c =
     let t = c.args.text.now in
     let e = c.listing_at-at.ensures in
-    seen_put t (model_front t e) c.read_or_refuse-seen.ensures (listing_rest t e) c.if-seen.true c.put_listing.ensures
+    seen_put t (model_front t e) c.in-Ok.ensures (listing_rest t e) refl c.put_listing.ensures
 
-pub shape_of-out : goal.shape_of-out
-shape_of-out c = put_length c.read_or_refuse-seen.ensures.puts
+pub shape_of-out-in-Err : goal.shape_of-out-in-Err
+shape_of-out-in-Err c = put_length c.in-Err.ensures.puts
 
-pub returns : goal.returns
-returns c =
+pub returns-in-Err : goal.returns-in-Err
+returns-in-Err c =
     let t = c.args.text.now in
-    unseen_put t (model_front t c.listing_at-at.ensures) c.read_or_refuse-seen.ensures c.if-seen.false
+    unseen_put t (model_front t c.listing_at-at.ensures) c.in-Err.ensures refl

@@ -1,8 +1,12 @@
 -- `rows::finish` meets its contract. Assumes nothing.
-use mathlib.Core.Path.{ap}
-use Rattle.rows.specs.State.{whole}
-use Rattle.rows.specs.Lines.{ends}
+use Rattle.rows.specs.Lines.{agreement}
+use Rattle.text.proofs.Lists.{tests}
 use Rattle.rows.proofs.finish.Goals as goal
 
+pub returns-then-not-agrees : goal.returns-then-not-agrees
+unfolding agreement
+returns-then-not-agrees c = search tests
+
 pub returns : goal.returns
-returns c = λ hs ts. ap (λ n. ends n 0 (whole c.args.t hs ts)) c.agrees-refusal.ensures
+unfolding agreement
+returns c = search tests

@@ -6,7 +6,7 @@ use Rattle.rows.proofs.Lines.{Turn}
 use Rattle.rows.proofs.read_lines.Given as goal
 
 abbrev pub invariant-loop-rest : goal.invariant-loop-rest
-invariant-loop-rest l = (length l.heads ≡ length l.initial.heads) × (length l.triples ≡ length l.initial.triples) × Turn l.size l.text (before l.initial.heads l.initial.triples) (whole l.t l.heads l.triples) l.rest l.line
+invariant-loop-rest l = (length l.heads ≡ length l.initial.heads) × (length l.triples ≡ length l.initial.triples) × Turn l.size l.text (before l.initial.heads l.initial.triples) (whole l.tally l.heads l.triples) l.rest l.line
 
 abbrev pub decreases-loop-rest : goal.decreases-loop-rest
 decreases-loop-rest l = length l.rest

@@ -4,17 +4,17 @@ use Rattle.rows.specs.State.{whole}
 use Rattle.rows.proofs.take_safe.Goals as goal
 
 pub returns-then-n-ne3 : goal.returns-then-n-ne3
-returns-then-n-ne3 c = let a = c.args in λ hs ts. safe_malformed (whole a.t hs ts) a.n c.if-n-ne3.true
+returns-then-n-ne3 c = let a = c.args in λ hs ts. safe_malformed (whole a.tally.now hs ts) a.n c.if-n-ne3.true
 
-pub returns-then-t-ne0 : goal.returns-then-t-ne0
-returns-then-t-ne0 c = let a = c.args in λ hs ts. safe_twice (whole a.t hs ts) a.n c.if-n-ne3.false c.if-t-ne0.true
+pub returns-then-tally : goal.returns-then-tally
+returns-then-tally c = let a = c.args in λ hs ts. safe_twice (whole a.tally.now hs ts) a.n c.if-n-ne3.false c.if-tally.true
 
 pub returns-then-rounds-gt-LARGEST : goal.returns-then-rounds-gt-LARGEST
 returns-then-rounds-gt-LARGEST c =
     let a = c.args in
-    λ hs ts. safe_large (whole a.t hs ts) a.n c.if-n-ne3.false c.if-t-ne0.false c.if-rounds-gt-LARGEST.true
+    λ hs ts. safe_large (whole a.tally.now hs ts) a.n c.if-n-ne3.false c.if-tally.false c.if-rounds-gt-LARGEST.true
 
 pub returns : goal.returns
 returns c =
     let a = c.args in
-    λ hs ts. safe_taken (whole a.t hs ts) a.n c.if-n-ne3.false c.if-t-ne0.false c.if-rounds-gt-LARGEST.false
+    λ hs ts. safe_taken (whole a.tally.now hs ts) a.n c.if-n-ne3.false c.if-tally.false c.if-rounds-gt-LARGEST.false

@@ -1,9 +1,13 @@
 -- `rows::take_triple` meets its contract. Assumes nothing.
-use Rattle.rows.proofs.Steps.{triple_unranked, triple_ranked}
+use Rattle.rows.proofs.Steps.{begun_is, triple_passed, triple_ranked}
 use Rattle.rows.proofs.take_triple.Goals as goal
 
-pub returns-then-refusal-ne0 : goal.returns-then-refusal-ne0
-returns-then-refusal-ne0 c = let a = c.args in triple_unranked a.size a.t a.n c.rank_triple-refusal.ensures c.if-refusal-ne0.true
+pub returns-in_err-rank_triple : goal.returns-in_err-rank_triple
+returns-in_err-rank_triple c =
+    let a = c.args in
+    triple_passed a.size a.tally.now a.n _ (rw (begun_is a.tally.now.begun c.from.ensures) at c.in_err-rank_triple.ensures) _ c.from_residual.ensures.1
 
 pub returns : goal.returns
-returns c = let a = c.args in triple_ranked a.size a.t a.n c.rank_triple-refusal.ensures c.if-refusal-ne0.false
+returns c =
+    let a = c.args in
+    triple_ranked a.size a.tally.now a.n (rw (begun_is a.tally.now.begun c.from.ensures) at c.in_ok-rank_triple.ensures)

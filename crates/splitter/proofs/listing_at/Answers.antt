@@ -1,28 +1,41 @@
 use mathlib.Core.Path.{sym, ◌∙◌}
-use mathlib.Core.Logic.{inl, inr}
-use Prim.Native.Nat.{◌-◌}
-use Rattle.splitter.proofs.Place.{place_here, place_none, none_but, four_passed}
-use borrow.Author.Rules.{rules}
+use Prim.Native.Nat.{◌+◌, ◌-◌}
+use Rattle.splitter.proofs.Place.{place_here, place_none, none_before, none_passed, none_letter}
 use native.Mathlib.Omega.{arith}
 use Rattle.splitter.proofs.listing_at.Goals as goal
-use Rattle.splitter.proofs.listing_at.Goals.{then-letter-lt4+else-safe_at, else-letter-lt4}
-
-pub loop-last-init : goal.loop-last-init
-loop-last-init c = (search rules, search rules, λ i h. absurd (omega arith))
+use Rattle.splitter.proofs.listing_at.Goals.{in-Some+else-safe_at, in_default}
 
 pub returns-then-safe_at : goal.returns-then-safe_at
 returns-then-safe_at c =
     let l = c.loop-last in
     let t = c.args.text.now in
-    let g = c.letter_of-letter in
-    place_here t (l.last - g.result) (λ i h. none_but t l.last l.invariant.2 g.result g.ensures i (omega arith) (λ e. omega arith)) (omega arith) (sym c.safe_at.ensures ∙ c.if-safe_at.true)
+    place_here t (l.last - c.in-Some.letter) (none_before t l.last l.invariant c.letter_of.ensures c.in-Some.is) (omega arith) (sym c.safe_at.ensures ∙ c.if-safe_at.true)
 
 pub loop-last-preserved : goal.loop-last-preserved
 loop-last-preserved c =
     let l = c.loop-last in
-    let g = c.letter_of-letter in
-    let passed = four_passed c.args.text.now l.last l.invariant.2 g.result g.ensures in
-    (search rules, omega arith, passed (elim c.if-letter-lt4.branch [ then-letter-lt4+else-safe_at w ↦ inr (omega arith, sym w.safe_at.ensures ∙ w.if-safe_at.false) | else-letter-lt4 w ↦ inl w.if-letter-lt4.false ]))
+    let t = c.args.text.now in
+    elim c.match-letter_of.branch [
+      | in-Some+else-safe_at w ↦ none_passed t l.last l.invariant c.letter_of.ensures w.in-Some.is l.auto.last (sym w.safe_at.ensures ∙ w.if-safe_at.false)
+      | in_default w ↦ none_letter t l.last l.invariant c.letter_of.ensures w.in_default.is
+    ]
+
+pub loop-last-smaller : goal.loop-last-smaller
+loop-last-smaller c = omega arith
+
+-- behind the last four places, as in `loop-last-preserved`
+pub returns-after-letter_of : goal.returns-after-letter_of
+returns-after-letter_of c =
+    let l = c.loop-last in
+    let t = c.args.text.now in
+    place_none t (l.last + 4)
+    (
+    elim c.match-letter_of.branch [
+      | in-Some+else-safe_at w ↦ none_passed t l.last l.invariant c.letter_of.ensures w.in-Some.is l.auto.last (sym w.safe_at.ensures ∙ w.if-safe_at.false)
+      | in_default w ↦ none_letter t l.last l.invariant c.letter_of.ensures w.in_default.is
+    ]
+    )
+    (omega arith)
 
 pub returns : goal.returns
-returns c = let l = c.loop-last in l.invariant.0 ∙ place_none c.args.text.now l.last l.invariant.2 (omega arith)
+returns c = place_none c.args.text.now c.loop-last.last c.loop-last.invariant (omega arith)

@@ -1,13 +1,18 @@
 -- `splitter::safe_at` meets its contract. Assumes nothing.
-use mathlib.Core.Path.{◌∙◌}
-use Rattle.splitter.proofs.Place.{safe_first, safe_inside, safe_behind_lem}
+use Rattle.splitter.proofs.Place.{begins_first, begins_inside, safe_there, safe_inside}
 use Rattle.splitter.proofs.safe_at.Goals as goal
+use Rattle.splitter.proofs.safe_at.Goals.{then-at-eq0, else-at-eq0}
 
-pub returns-then-at-eq0 : goal.returns-then-at-eq0
-returns-then-at-eq0 c = let a = c.args in c.starts_safe.ensures ∙ safe_first a.text.now a.at c.if-at-eq0.true
+pub returns-then-begins : goal.returns-then-begins
+returns-then-begins c =
+    let s = c.args.text.now in
+    let i = c.args.at in
+    safe_there s i (elim c.if-at-eq0.branch [ then-at-eq0 w ↦ begins_first s i w.if-at-eq0.true w.begins-is | else-at-eq0 w ↦ begins_inside s i w.if-at-eq0.false w.begins-is ])
+    c.if-begins.true c.starts_safe.ensures
 
-pub returns-then-text-at-ne10 : goal.returns-then-text-at-ne10
-returns-then-text-at-ne10 c = let a = c.args in safe_inside a.text.now a.at c.if-at-eq0.false c.if-text-at-ne10.true
-
-pub returns : goal.returns
-returns c = let a = c.args in c.starts_safe-2.ensures ∙ safe_behind_lem a.text.now a.at c.if-at-eq0.false c.if-text-at-ne10.false
+pub returns-else-begins : goal.returns-else-begins
+returns-else-begins c =
+    let s = c.args.text.now in
+    let i = c.args.at in
+    safe_inside s i (elim c.if-at-eq0.branch [ then-at-eq0 w ↦ begins_first s i w.if-at-eq0.true w.begins-is | else-at-eq0 w ↦ begins_inside s i w.if-at-eq0.false w.begins-is ])
+    c.if-begins.false

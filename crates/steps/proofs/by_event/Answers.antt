@@ -4,14 +4,14 @@ use Rattle.steps.proofs.Events.{entered_none, entered_more, entered_all}
 use Rattle.steps.proofs.by_event.Goals as goal
 
 pub loop-v-init : goal.loop-v-init
-loop-v-init c = (omega arith, omega arith, entered_none (model_in c.args.m.now))
+loop-v-init c = entered_none (model_in c.args.m.now)
 
 pub loop-v-preserved : goal.loop-v-preserved
 loop-v-preserved c =
     let l = c.loop-v in
-    (omega arith, omega arith, entered_more (model_in c.args.m.now) l.v l.on _ c.move_at-by.ensures.value l.invariant.2 c.put_move.ensures)
+    entered_more (model_in c.args.m.now) l.v l.on _ c.move_at-by.ensures.value l.invariant c.put_move.ensures
 
 pub returns : goal.returns
 returns c =
     let l = c.loop-v in
-    entered_all (model_in c.args.m.now) l.v _ l.on (omega arith) l.invariant.2
+    entered_all (model_in c.args.m.now) l.v _ l.on (omega arith) l.invariant

@@ -15,4 +15,4 @@ unfolding model_in
 returns c =
     let a = c.args in
     let is = in_part a.m.now 0 1024 (a.r * 4 + 1) (a.r * 4 + 1) (omega arith) (omega arith) in
-    record { value = class_row (model_in a.m.now) a.r c.if-r-ge256.false (c.index.ensures.value ∙ is); upper_bound = c.index.ensures.upper_bound }
+    record { value = class_row (model_in a.m.now) a.r c.if-r-ge256.false (c.from.ensures ∙ is); upper_bound = omega (arith, c.from.ensures, c.fits-m (a.r * 4 + 1)) }

@@ -8,7 +8,7 @@ use Rattle.steps.proofs.Built.{filled_none, filled_more, filled_all, symbol_is}
 use Rattle.steps.proofs.class_steps.Goals as goal
 
 pub loop-g-init : goal.loop-g-init
-loop-g-init c = (omega arith, omega arith, filled_none (model_in c.args.m.now))
+loop-g-init c = filled_none (model_in c.args.m.now)
 
 pub loop-g-preserved : goal.loop-g-preserved
 unfolding model_in
@@ -16,12 +16,11 @@ loop-g-preserved c =
     let m = model_in c.args.m.now in
     let l = c.loop-g in
     let on-is = c.by_event-on.ensures ∙ ap (λ (s : Shape). event_steps m s.moves) c.shape-shape.ensures in
-    (omega arith, omega arith, filled_more m l.g l.tg _ (omega arith) l.invariant.2 (symbol_is m l.g _ on-is c.symbol_steps.ensures))
+    filled_more m l.g l.tg _ (omega arith) l.invariant (symbol_is m l.g _ on-is c.symbol_steps.ensures)
 
 pub returns : goal.returns
 unfolding model_in
 returns c =
     let l = c.loop-g in
     let all = ap (λ (s : Shape). min s.symbols 32) c.shape-shape.ensures in
-    let few = c.at_most-n.ensures in
-    filled_all (model_in c.args.m.now) l.g l.tg (omega arith) l.invariant.2
+    filled_all (model_in c.args.m.now) l.g l.tg (omega arith) l.invariant

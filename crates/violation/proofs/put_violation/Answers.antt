@@ -2,12 +2,8 @@
 use mathlib.Core.Path.{◌∙◌}
 use Rattle.text.proofs.Puts.{put_length}
 use Rattle.lent.specs.Lending.{model_in}
-use Rattle.violation.proofs.Lines.{shown_steps, violation_put}
+use Rattle.violation.proofs.Lines.{violation_put}
 use Rattle.violation.proofs.put_violation.Goals as goal
-
-pub put_steps-requires : goal.put_steps-requires
-put_steps-requires c =
-    shown_steps _ _ c.least.ensures c.least-n.ensures
 
 pub shape_of-out : goal.shape_of-out
 shape_of-out c =
@@ -16,5 +12,5 @@ shape_of-out c =
 pub returns : goal.returns
 returns c =
     let a = c.args in
-    violation_put (model_in a.m.now) a.whole a.rounds a.steps.now a.count c.least.ensures c.least-n.ensures
+    violation_put (model_in a.m.now) a.whole a.rounds a.steps.now a.count c.min.ensures c.min-n.ensures
     c.put_first-next.ensures c.put_steps.ensures

@@ -1,13 +1,14 @@
 -- `violation::state_after` meets its contract: the state that was answered, and q where none was. Assumes nothing.
+use mathlib.Core.Path.{◌∙◌}
 use Rattle.lent.specs.Lending.{product_in}
 use Rattle.violation.proofs.Lines.{asked, in_byte}
 use Rattle.violation.proofs.state_after.Goals as goal
 
-pub returns-in-Stuck : goal.returns-in-Stuck
-returns-in-Stuck c =
+pub returns : goal.returns
+returns c =
     let a = c.args in
-    record { value = asked (product_in a.m.now) a.step a.q c.next_state-next.ensures.value c.in-Stuck.is; upper_bound = c.requires }
-
-pub returns-in-To : goal.returns-in-To
-returns-in-To c =
-    let a = c.args in record { value = asked (product_in a.m.now) a.step a.q c.next_state-next.ensures.value c.in-To.is; upper_bound = in_byte c.next_state-next.ensures.in_byte c.in-To.is }
+    let n = c.next_state-next in
+    record {
+      value = c.unwrap_or.ensures ∙ asked (product_in a.m.now) a.step a.q n.ensures.value;
+      upper_bound = rw c.unwrap_or.ensures (in_byte n.result n.ensures.in_byte c.requires);
+    }

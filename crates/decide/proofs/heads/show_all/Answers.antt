@@ -1,21 +1,16 @@
+use mathlib.Core.Path.{ap}
+use Rattle.decide.specs.declared.sets.Members.{Members}
 use Rattle.decide.proofs.Showing.{left_first, left_next, left_last}
-use native.Mathlib.Omega.{arith}
 use Rattle.decide.proofs.heads.show_all.Goals as goal
 
-pub loop-left-init : goal.loop-left-init
-loop-left-init c = left_first c.requires.set_len c.requires.empty
-
-pub pick-i-requires : goal.pick-i-requires
-pick-i-requires c = c.loop-left.invariant.long
-
-pub returns-then-i-ge256 : goal.returns-then-i-ge256
-returns-then-i-ge256 c = left_last (omega arith) c.pick-i.ensures c.loop-left.invariant
+pub loop-i-init : goal.loop-i-init
+loop-i-init c = left_first (ap (λ (s : Members). s.0) c.into_iter-i-iterator.ensures.into_iter_gives) c.requires.set_len c.requires.empty
 
 pub show-touched-requires : goal.show-touched-requires
-show-touched-requires c = record { i_bound = omega arith; nh_len = c.loop-left.invariant.covers.long }
+show-touched-requires c = record { i_bound = c.in-Some.ensures.steps.small; nh_len = c.loop-i.invariant.covers.long }
 
-pub loop-left-smaller : goal.loop-left-smaller
-loop-left-smaller c = c.pick-i.ensures.less (omega arith)
+pub loop-i-preserved : goal.loop-i-preserved
+loop-i-preserved c = left_next c.in-Some.ensures.steps c.loop-i.invariant c.show-touched.ensures
 
-pub loop-left-preserved : goal.loop-left-preserved
-loop-left-preserved c = left_next (omega arith) c.pick-i.ensures c.loop-left.invariant c.show-touched.ensures
+pub returns : goal.returns
+returns c = left_last c.in-None.ensures.steps c.loop-i.invariant

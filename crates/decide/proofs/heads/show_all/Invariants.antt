@@ -1,10 +1,6 @@
--- `decide::heads::show_all` meets its contract. The loop's invariant: what is left to show, with the rows as they are, makes what was asked; the set that is left loses weight. Assumes nothing.
-use Rattle.decide.specs.Sets.{weight}
+-- `decide::heads::show_all` meets its contract. The loop's invariant: what is left to show, with the rows as they are, makes what was asked. Assumes nothing.
 use Rattle.decide.proofs.Showing.{Left}
 use Rattle.decide.proofs.heads.show_all.Given as goal
 
-abbrev pub invariant-loop-left : goal.invariant-loop-left
-invariant-loop-left l = Left l.rules l.tg l.e l.hd l.initial.left l.initial.nh l.left l.touched l.nh
-
-abbrev pub decreases-loop-left : goal.decreases-loop-left
-decreases-loop-left l = weight l.left
+abbrev pub invariant-loop-i : goal.invariant-loop-i
+invariant-loop-i l = Left l.fn.given.rules.now l.fn.given.tg.now l.e l.hd l.fn.set l.initial.nh l.i-iterator.0 l.touched l.nh

@@ -1,27 +1,17 @@
-use lib.Count.{trailing_le}
-use Rattle.bits.proofs.Lowest.{cleared_less}
-use Rattle.decide.proofs.Choosing.{left_first, left_next, left_last, lowest_low}
-use borrow.Author.Rules.{rules}
+use mathlib.Core.Path.{ap}
 use native.Mathlib.Omega.{arith}
+use Rattle.bits.specs.declared.Ones.{Ones}
+use Rattle.decide.proofs.Choosing.{left_first, low_taken, left_next, left_last}
 use Rattle.decide.proofs.sets.collect.Goals as goal
 
-pub loop-d-init : goal.loop-d-init
-loop-d-init c = left_first (search rules) c.requires.by_index c.requires.set_len
-
-pub overflow_cast-g : goal.overflow_cast-g
-overflow_cast-g c = omega (arith, trailing_le 64 c.loop-d.d)
-
-pub overflow_add-from : goal.overflow_add-from
-overflow_add-from c = omega (arith, trailing_le 64 c.loop-d.d)
+pub loop-g-init : goal.loop-g-init
+loop-g-init c = left_first (ap (λ (s : Ones). s.0) c.into_iter-g-iterator.ensures.into_iter_gives) c.requires.by_index c.requires.set_len
 
 pub join-requires : goal.join-requires
-join-requires c = record { set_len = c.loop-d.invariant.long; s_bound = omega (arith, lowest_low (omega arith) c.loop-d.invariant) }
+join-requires c = record { set_len = c.loop-g.invariant.long; s_bound = omega (arith, low_taken c.in-Some.ensures.steps c.loop-g.invariant) }
 
-pub loop-d-smaller : goal.loop-d-smaller
-loop-d-smaller c = cleared_less c.loop-d.d (omega arith)
-
-pub loop-d-preserved : goal.loop-d-preserved
-loop-d-preserved c = left_next (omega arith) c.loop-d.invariant c.join.ensures
+pub loop-g-preserved : goal.loop-g-preserved
+loop-g-preserved c = left_next c.in-Some.ensures.steps c.loop-g.invariant c.join.ensures
 
 pub returns : goal.returns
-returns c = left_last (omega arith) c.loop-d.invariant
+returns c = left_last c.in-None.ensures.steps.0 c.loop-g.invariant

@@ -1,10 +1,6 @@
--- `decide::sets::join` meets its contract. The loop's invariant: the first k words are joined; the words that are left fall. Assumes nothing.
-use Prim.Native.Nat.{◌-◌}
+-- `decide::sets::join` meets its contract. The loop's invariant: the first k words are joined. Assumes nothing.
 use Rattle.decide.proofs.Members.{JoinedTo}
 use Rattle.decide.proofs.sets.join.Given as goal
 
 abbrev pub invariant-loop-k : goal.invariant-loop-k
 invariant-loop-k l = JoinedTo l.initial.set l.sets l.s l.k l.set
-
-abbrev pub decreases-loop-k : goal.decreases-loop-k
-decreases-loop-k l = 4 - l.k

@@ -3,11 +3,11 @@ use mathlib.Core.Path.{◌∙◌}
 use Rattle.decide.proofs.Gathered.{rest_exit, rest_direct, rest_call}
 use Rattle.decide.proofs.triples.rest.Goals as goal
 
-pub returns-then-row-eq0 : goal.returns-then-row-eq0
-returns-then-row-eq0 c = rest_exit _ _ _ _ c.if-row-eq0.true
+pub returns-in-Exit : goal.returns-in-Exit
+returns-in-Exit c = rest_exit _ _ _ _ c.in-Exit.is
 
-pub returns-then-row-eq1 : goal.returns-then-row-eq1
-returns-then-row-eq1 c = rest_direct _ _ _ _ c.if-row-eq0.false c.if-row-eq1.true
+pub returns-in-Direct : goal.returns-in-Direct
+returns-in-Direct c = rest_direct _ _ _ _ c.in-Direct.is
 
-pub returns : goal.returns
-returns c = c.times.ensures ∙ rest_call _ _ _ _ c.if-row-eq0.false c.if-row-eq1.false
+pub returns-in-Call : goal.returns-in-Call
+returns-in-Call c = c.composed.ensures ∙ rest_call _ _ _ _ c.in-Call.is

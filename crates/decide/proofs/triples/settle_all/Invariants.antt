@@ -1,10 +1,6 @@
--- `decide::triples::settle_all` meets its contract. The loop's invariant: what is left to settle, with what is done, makes what was asked; the set that is left loses weight. Assumes nothing.
-use Rattle.decide.specs.Sets.{weight}
+-- `decide::triples::settle_all` meets its contract. The loop's invariant: what is left to settle, with what is done, makes what was asked. Assumes nothing.
 use Rattle.decide.proofs.Settling.{Left}
 use Rattle.decide.proofs.triples.settle_all.Given as goal
 
-abbrev pub invariant-loop-size : goal.invariant-loop-size
-invariant-loop-size l = Left l.size l.k l.initial.left l.tg l.by l.initial.e l.initial.triples l.left l.changed l.e l.triples
-
-abbrev pub decreases-loop-size : goal.decreases-loop-size
-decreases-loop-size l = weight l.left
+abbrev pub invariant-loop-c : goal.invariant-loop-c
+invariant-loop-c l = Left l.size l.k l.fn.touched l.tg l.by l.initial.e l.initial.triples l.c-iterator.0 l.changed l.e l.triples

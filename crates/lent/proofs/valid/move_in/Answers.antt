@@ -1,25 +1,18 @@
 -- `lent::valid::move_in` meets its contract. Assumes nothing.
-use borrow.Author.Tests.{lt-ltb, le-ltb}
+use native.Mathlib.Omega.{arith}
+use Rattle.std.proofs.lemmas.Bool.Decides.{nat_tests}
 use Rattle.lent.specs.Lending.{part, model_in}
 use Rattle.lent.proofs.Parts.{move_read}
 use Rattle.lent.proofs.valid.move_in.Goals as goal
 
-pub returns-then-states-by : goal.returns-then-states-by
+pub returns-then-by-events : goal.returns-then-by-events
 unfolding model_in
-returns-then-states-by c =
+returns-then-by-events c =
     let a = c.args in
-    move_read (part 1024 384 a.m.now) a.states a.events a.v c.move_at-by.ensures.value (rw (le-ltb _ _ c.if-states-by.true))
+    move_read (part 1024 384 a.m.now) a.states a.events a.v c.move_at-by.ensures.value (grind (arith, nat_tests))
 
-pub returns-then-events-by : goal.returns-then-events-by
+pub returns-else-by-events : goal.returns-else-by-events
 unfolding model_in
-returns-then-events-by c =
+returns-else-by-events c =
     let a = c.args in
-    move_read (part 1024 384 a.m.now) a.states a.events a.v c.move_at-by.ensures.value
-    (rw (lt-ltb _ _ c.if-states-by.false, le-ltb _ _ c.if-events-by.true))
-
-pub returns : goal.returns
-unfolding model_in
-returns c =
-    let a = c.args in
-    move_read (part 1024 384 a.m.now) a.states a.events a.v c.move_at-by.ensures.value
-    (rw (lt-ltb _ _ c.if-states-by.false, lt-ltb _ _ c.if-events-by.false))
+    move_read (part 1024 384 a.m.now) a.states a.events a.v c.move_at-by.ensures.value (grind (arith, nat_tests))

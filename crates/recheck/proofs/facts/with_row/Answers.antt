@@ -6,7 +6,7 @@ use Rattle.recheck.proofs.facts.with_row.Goals as goal
 pub loop-e-init : goal.loop-e-init
 loop-e-init c =
     let a = c.args in
-    (omega arith, rowed_none a.m a.cells.now a.at a.apart a.k)
+    rowed_none a.m a.cells.now a.at a.apart a.k
 
 pub overflow_mul-e : goal.overflow_mul-e
 overflow_mul-e c =
@@ -40,10 +40,10 @@ pub loop-e-preserved : goal.loop-e-preserved
 loop-e-preserved c =
     let a = c.args in
     let l = c.loop-e in
-    (omega arith, rowed_more a.m a.cells.now a.at a.apart a.k l.e l.r _ l.invariant.1 c.with_cell-r.ensures)
+    rowed_more a.m a.cells.now a.at a.apart a.k l.e l.r _ l.invariant c.with_cell-r.ensures
 
 pub returns : goal.returns
 returns c =
     let a = c.args in
     let l = c.loop-e in
-    rowed_all a.m a.cells.now a.at a.apart a.k a.n l.e l.r (omega arith) l.invariant.1
+    rowed_all a.m a.cells.now a.at a.apart a.k a.n l.e l.r (omega arith) l.invariant

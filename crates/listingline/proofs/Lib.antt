@@ -1,2 +1,0 @@
--- Laws about the definitions of specs/. Assumes nothing.
-pub mod Words

@@ -1,0 +1,2 @@
+-- What a program's one call gives. Assumes nothing.
+pub mod Calls
