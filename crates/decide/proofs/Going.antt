@@ -43,7 +43,7 @@ use Rattle.decide.proofs.Turning.{triples_low, heads_low, after_turn}
 -- After round n: what stands, with the rules for the next; the rounds before it went on; `more` tells whether it added a fact, and of the symbols
 -- that are not in `changed` no head is in a final state.
 pub record At (p : Product) (z : Size) (budget : ℕ) (rs tg hs ts : List ℕ) (n : ℕ) (t : Next) (by e hd hs' ts' : List ℕ) : Type 0 where
-  pub begins : Begins p z n t.wt t.wh rs tg by e hd hs' ts'
+  pub begins : Begins p z n t.wt.words t.wh.words rs tg by e hd hs' ts'
   pub triples_kept : Kept of_triples z ts ts'
   pub heads_kept : Kept of_heads z hs hs'
   pub idle : t.more ≡ false → T (not (adds p n))
@@ -192,17 +192,17 @@ module _ {z : Size} {goal : Goal} {t₀ : Next} {rs tg us hs ts : List ℕ} wher
       pub room : n < 2304
       room = let (c, x, _) = on in few_rounds d.product d.starts (suc n) (went_on j.seen j.seen_is c x d.product d.starts)
 
-      abbrev stands : Begins d.product z n t.wt t.wh rs tg by e hd hs' ts'
+      abbrev stands : Begins d.product z n t.wt.words t.wh.words rs tg by e hd hs' ts'
       stands = (G.at d.product d.starts).begins
 
-      pub can_heads : HeadsReady z t.wh rs tg e hd hs'
+      pub can_heads : HeadsReady z t.wh.words rs tg e hd hs'
       can_heads = heads_ready stands
 
-      pub can_triples : TriplesReady z t.wt rs tg by e ts'
+      pub can_triples : TriplesReady z t.wt.words rs tg by e ts'
       can_triples = triples_ready stands
 
-      module _ {ce ch : ℕ} {by' nh' e' hd' hs'' ts'' : List ℕ} (a : HeadsDone z (n + 1) t.wh rs tg e hd hs' ch nh' hd' hs'')
-          (b : TriplesDone z (n + 1) t.wt rs tg by e ts' ce by' e' ts'') where
+      module _ {ce ch : ℕ} {by' nh' e' hd' hs'' ts'' : List ℕ} (a : HeadsDone z (n + 1) t.wh.words rs tg e hd hs' ch nh' hd' hs'')
+          (b : TriplesDone z (n + 1) t.wt.words rs tg by e ts' ce by' e' ts'') where
         pub low_triples : (g : ℕ) → T (bit ce g) → g < 32
         low_triples = triples_low stands (round_ends stands (add-one n) a b)
 

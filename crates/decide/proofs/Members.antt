@@ -150,9 +150,6 @@ module _ {w₀ : List ℕ} where
   passed_first = record { same = refl; empty = λ j h. absurd (omega arith) }
 
   module _ {k : ℕ} {w : List ℕ} (p : Passed w₀ k w) where
-    pub passed_long : length w₀ ≡ 4 → length w ≡ 4
-    passed_long n = ap length p.same ∙ n
-
     pub passed_next : {w' : List ℕ} → (w' ≡ w) × (get_or w k 0 ≡ 0) → Passed w₀ (suc k) w'
     passed_next (s, z) = record { same = s ∙ p.same; empty = λ j h. at j h (ℕ_discrete j k) z }
       where

@@ -107,6 +107,12 @@ off_and : (a : Bool) → a && false ≡ false
 off_and true = refl
 off_and false = refl
 
+-- a kind that is neither of the others is a call
+pub other_call : (kind : Kind) → (kind ≡ Exit → ⊥) → (kind ≡ Direct → ⊥) → kind ≡ Call
+other_call Exit h k = absurd (h refl)
+other_call Direct h k = absurd (k refl)
+other_call Call h k = refl
+
 -- a rule whose steps end nowhere
 nowhere : (kind : Kind) (over under : ℕ) (e : List ℕ) (l : ℕ → Bool) → ((x : ℕ) → l x ≡ false) → (g x : ℕ) → shown_by kind over under e l g x ≡ false
 nowhere Exit over under e l h g x = refl

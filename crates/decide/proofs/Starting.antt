@@ -97,29 +97,29 @@ module _ (m : Model) (v : T (valid m)) {rs : List ℕ} (same : LiesIn rs m) wher
       no_exit (suc zero) g₀ g1 g2 x = tt
       no_exit (suc (suc k)) g₀ g1 g2 x = tt
 
-      first_t : (r : ℕ) → r < m.rules → chosen t.wt r ≡ false → FirstT (rule m r)
+      first_t : (r : ℕ) → r < m.rules → chosen t.wt.words r ≡ false → FirstT (rule m r)
       first_t r l x =
           subst⁻¹ FirstT (row_lent m v same r l)
           (no_exit (kind_at rs r) (symbol_of (class_at rs r)) (over_at rs r) (under_at rs r)
           (sym (ap (λ b. b && eqb (kind_at rs r) 0) (lt-ltb r m.rules l)) ∙ sym (f.exits.is r) ∙ x))
 
-      not_start : (r g₀ : ℕ) → r < m.rules → chosen t.wh r ≡ false → T (member us (64 + g₀) r) → m.startsymbol ≡ g₀ → ⊥
+      not_start : (r g₀ : ℕ) → r < m.rules → chosen t.wh.words r ≡ false → T (member us (64 + g₀) r) → m.startsymbol ≡ g₀ → ⊥
       not_start r g₀ l x u e =
           subst T x (collected_new f.heads r g₀ (omega (arith, l, (valid_sizes m v).rules)) (subst (λ n. n < 32) e g_in)
           (subst⁻¹ T (changed_bit g₀ ∙ eq-eqb goal.symbol g₀ (of.symbol_is ∙ e)) tt) u)
 
-      first_h : (r : ℕ) → r < m.rules → chosen t.wh r ≡ false → (ρ : Rule) → UsesOf us r ρ → FirstH m.startsymbol ρ
+      first_h : (r : ℕ) → r < m.rules → chosen t.wh.words r ≡ false → (ρ : Rule) → UsesOf us r ρ → FirstH m.startsymbol ρ
       first_h r l x (exit g₀) w = tt
       first_h r l x (direct g₀ g1) (_, u) = not_start r g₀ l x u
       first_h r l x (call g₀ g1 g2) (_, _, _, u) = not_start r g₀ l x u
 
-      sets_first : Sets (product_of m) 0 t.wt t.wh
+      sets_first : Sets (product_of m) 0 t.wt.words t.wh.words
       sets_first = record {
         triples_long = f.exits.long;
         heads_long = f.heads.long;
         triples_only = λ r u. ltb→lt r m.rules (and_left (ltb r m.rules) (eqb (kind_at rs r) 0) (subst T (f.exits.is r) u));
         heads_only = λ r u. ⊎_elim (λ b. absurd (no_member r b)) (λ (s, h, b). f.uses.only s r h b) (collected_cases f.heads r u);
-        enough = enough_first (product_of m) (product_in_lem m v) (chosen t.wt) (chosen t.wh)
+        enough = enough_first (product_of m) (product_in_lem m v) (chosen t.wt.words) (chosen t.wh.words)
             record { triples = first_t; heads = λ r l x. first_h r l x (rule m r) (uses_are.there r l) };
       }
 

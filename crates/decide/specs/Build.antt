@@ -44,8 +44,8 @@ pub record First (rs : List ℕ) (n g : ℕ) (us : List ℕ) (t : Next) : Type 0
   pub uses : UsesAll rs n us
   pub more_is : t.more ≡ true
   pub changed_is : t.changed ≡ (1 * 2 ^ g) % 2 ^ 64
-  pub exits : Exits rs n t.wt
-  pub heads : Collected us 64 t.changed (zeros 4) t.wh
+  pub exits : Exits rs n t.wt.words
+  pub heads : Collected us 64 t.changed (zeros 4) t.wh.words
 
 -- the final states, and the start
 pub record GoalOf (s : Shape) (final : ℕ → Bool) (goal : Goal) : Type 0 where

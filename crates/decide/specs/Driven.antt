@@ -50,7 +50,7 @@ start_rows goal = set (zeros 32) goal.symbol ((1 * 2 ^ goal.state) % 2 ^ 64)
 
 -- round 0 stands, and t has the rules for the first round
 pub record Starts (p : Product) (z : Size) (goal : Goal) (t : Next) (rs tg us hs ts : List ℕ) : Type 0 where
-  pub begins : Begins p z 0 t.wt t.wh rs tg (zeros 256) (zeros 32) (start_rows goal) hs ts
+  pub begins : Begins p z 0 t.wt.words t.wh.words rs tg (zeros 256) (zeros 32) (start_rows goal) hs ts
   pub uses : Uses p us
   pub goals : Goals p goal
   pub more_is : t.more ≡ true

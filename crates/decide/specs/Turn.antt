@@ -37,14 +37,14 @@ pub record Uses (p : Product) (us : List ℕ) : Type 0 where
 pub record Chosen (us : List ℕ) (ce ch : ℕ) (t : Next) : Type 0 where
   pub more_is : t.more ≡ not (eqb (bit_or ce ch) 0)
   pub changed_is : t.changed ≡ ch
-  pub triples : Collected us 0 ce (zeros 4) t.wt
+  pub triples : Collected us 0 ce (zeros 4) t.wt.words
   pub by_triples : List ℕ
   pub returned : Collected us 32 ce (zeros 4) by_triples
-  pub heads : Collected us 64 ch by_triples t.wh
+  pub heads : Collected us 64 ch by_triples t.wh.words
 
 -- What stands after round n + 1, with enough rules for the next. `more` is whether the round added a fact; `changed` has the symbols with a new head.
 pub record After (p : Product) (z : Size) (n : ℕ) (rs tg hs ts : List ℕ) (t : Next) (by' e' hd' hs' ts' : List ℕ) : Type 0 where
-  pub begins : Begins p z (suc n) t.wt t.wh rs tg by' e' hd' hs' ts'
+  pub begins : Begins p z (suc n) t.wt.words t.wh.words rs tg by' e' hd' hs' ts'
   pub triples_kept : Kept of_triples z ts ts'
   pub heads_kept : Kept of_heads z hs hs'
   pub idle : t.more ≡ false → T (not (adds p (suc n)))

@@ -5,22 +5,22 @@ ghost use Rattle.lent.specs.Lending.{product_in};
 ghost use Rattle.decide.specs.Build.{RulePut, RulesSorted, First, GoalOf};
 ghost use Rattle.decide.specs.Gather.{Empty};
 
-use crate::sets::{add, collect, put};
+use crate::sets::{NumberSet, collect, put};
 use crate::{Goal, Next};
 use lent::Lent;
 use model::Shape;
 use steps::{Kind, row_at};
 
-// Puts rule r into the sets of the symbols whose triples or heads it needs. An exit needs none, and is put among the exits.
-fn sort_rule(rules: &Lent, r: usize, us: &mut [u64; 384], exits: &mut [u64; 4])
+// Puts rule r into the sets of the symbols whose triples or heads it needs. An exit needs none, and is put among the exits. The
+// kinds are asked one after another, since a direct rule and a call share two puts.
+fn sort_rule(rules: &Lent, r: usize, us: &mut [u64; 384], exits: &mut NumberSet)
     requires r_bound { r < 256 }
     requires us_len { length us.old ≡ 384 }
-    requires exits_len { length exits.old ≡ 4 }
-    ensures { RulePut rules.now r us.old exits.old us.new exits.new }
+    ensures { RulePut rules.now r us.old exits.old.words us.new exits.new.words }
 {
     let row = row_at(rules, r);
     if row.kind == Kind::Exit {
-        add(exits, r);
+        exits.insert(r);
         return;
     }
     put(us, 64 + steps::symbol_of(row.class), r);
@@ -33,11 +33,11 @@ fn sort_rule(rules: &Lent, r: usize, us: &mut [u64; 384], exits: &mut [u64; 4])
 }
 
 // The sets of rules by what they need, and the exits, which give triples in the first round. The sets are filled where they lie: they are large.
-fn sort_rules(rules: &Lent, count: usize, us: &mut [u64; 384], exits: &mut [u64; 4])
+fn sort_rules(rules: &Lent, count: usize, us: &mut [u64; 384], exits: &mut NumberSet)
     requires count_bound { count ≤ 256 }
     requires empty { Empty 384 us.old }
-    requires empty_2 { Empty 4 exits.old }
-    ensures { RulesSorted rules.now count us.new exits.new }
+    requires empty_2 { Empty 4 exits.old.words }
+    ensures { RulesSorted rules.now count us.new exits.new.words }
 {
     for r in 0..count {
         sort_rule(rules, r, us, exits);
@@ -51,10 +51,10 @@ pub(crate) fn first_rules(rules: &Lent, count: usize, g: usize, us: &mut [u64; 3
     requires empty { Empty 384 us.old }
     ensures { First rules.now count g us.new result }
 {
-    let mut exits = [0u64; 4];
+    let mut exits = NumberSet::empty();
     sort_rules(rules, count, us, &mut exits);
     let changed = 1u64 << (g as u64);
-    let for_heads = collect(us, 64, changed, [0u64; 4]);
+    let for_heads = collect(us, 64, changed, NumberSet::empty());
     Next {
         more: true,
         changed: changed,

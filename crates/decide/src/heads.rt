@@ -9,7 +9,7 @@ ghost use Rattle.decide.specs.Take.{Took, Room, Fits};
 ghost use Rattle.decide.specs.Show.{landing, shown, shown_all, Shows, RowsCover, ShowsAll, RowsFit, SettlesRows, HeadsReady, HeadsDone};
 
 use crate::Given;
-use crate::sets::{Members, gain};
+use crate::sets::{NumberSet, gain};
 use crate::stamps::stamp_heads;
 use bits::Ones;
 use steps::{Kind, row_at};
@@ -35,39 +35,39 @@ fn add_row(g: usize, v: u64, nh: &mut [u64; 32]) -> u64
     1u64 << (g as u64)
 }
 
-// Rule i adds the heads that it gives. Answers the set of the symbols whose row it wrote.
+// Rule i adds the heads that it gives. Answers the set of the symbols whose row it wrote. An exit is told first, in place of one match behind the steps: with
+// that a decision took up to 4 % longer.
 fn show(i: usize, given: Given, e: &[u64; 32], hd: &[u64; 32], nh: &mut [u64; 32]) -> u64
     requires i_bound { i < 256 }
     requires nh_len { length nh.old ≡ 32 }
     ensures { Shows (shown given.entry.rules.now given.entry.tg.now e.now hd.now i) nh.old result nh.new }
 {
     let row = row_at(given.rules, i);
+    if row.kind == Kind::Exit {
+        return 0;
+    }
     let v = land(i, given, hd);
     if v == 0 {
         return 0; // no head is passed on
     }
-    match row.kind {
-        Kind::Exit => 0,
-        Kind::Direct => add_row(row.over, v, nh),
-        Kind::Call => {
-            let t = add_row(row.over, v, nh);
-            let back = e[row.over];
-            if back == 0 {
-                return t; // nothing is returned to
-            }
-            t | add_row(row.under, bits::through(v, back), nh)
-        }
+    let t = add_row(row.over, v, nh);
+    if row.kind == Kind::Direct {
+        return t;
     }
+    let back = e[row.over];
+    if back == 0 {
+        return t; // nothing is returned to
+    }
+    t | add_row(row.under, bits::through(v, back), nh)
 }
 
 // The rules of a set.
-fn show_all(set: [u64; 4], given: Given, e: &[u64; 32], hd: &[u64; 32], nh: &mut [u64; 32]) -> u64
-    requires set_len { length set ≡ 4 }
-    requires empty { Empty 32 nh.old }
-    ensures { ShowsAll (shown_all given.entry.rules.now given.entry.tg.now e.now hd.now set) result nh.new }
+fn show_all(set: NumberSet, given: Given, e: &[u64; 32], hd: &[u64; 32], nh: &mut [u64; 32]) -> u64
+    requires { Empty 32 nh.old }
+    ensures { ShowsAll (shown_all given.entry.rules.now given.entry.tg.now e.now hd.now set.words) result nh.new }
 {
     let mut touched: u64 = 0;
-    for i in Members(set) {
+    for i in set {
         touched = touched | show(i, given, e, hd, nh);
     }
     touched
@@ -113,16 +113,16 @@ fn settle_heads(
 pub(crate) fn round_heads(
     size: Size,
     k: u16,
-    set: [u64; 4],
+    set: NumberSet,
     given: Given,
     e: &[u64; 32],
     nh: &mut [u64; 32],
     hd: &mut [u64; 32],
     heads: &mut [u16],
 ) -> u64
-    requires heads_ready { HeadsReady size set given.rules.now given.tg.now e.now hd.old heads.old }
+    requires heads_ready { HeadsReady size set.words given.rules.now given.tg.now e.now hd.old heads.old }
     requires empty { Empty 32 nh.old }
-    ensures { HeadsDone size k set given.entry.rules.now given.entry.tg.now e.now hd.old heads.old result nh.new hd.new heads.new }
+    ensures { HeadsDone size k set.words given.entry.rules.now given.entry.tg.now e.now hd.old heads.old result nh.new hd.new heads.new }
 {
     let touched = show_all(set, given, e, hd, nh);
     settle_heads(size, touched, k, nh, hd, heads)

@@ -8,6 +8,7 @@ ghost use Rattle.decide.specs.Decided.{Decided};
 ghost use Rattle.decide.specs.Ran.{Able, Started, Ran};
 
 use crate::build::{first_rules, goal_of};
+use crate::sets::NumberSet;
 use fitting::Unfit;
 use lent::Lent;
 use model::Shape;
@@ -48,8 +49,8 @@ struct Goal {
 struct Next {
     more: bool,
     changed: u64,
-    wt: [u64; 4],
-    wh: [u64; 4],
+    wt: NumberSet,
+    wh: NumberSet,
 }
 
 // What the rounds are run on, and leave as it is: the rules, for each class the matrix of its steps, and the sets of rules by what they need.

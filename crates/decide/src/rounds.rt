@@ -5,7 +5,7 @@ ghost use Rattle.decide.specs.Turn.{Chosen};
 ghost use Rattle.decide.specs.Driven.{violations, Judged, Driving, Driven};
 
 use crate::heads::round_heads;
-use crate::sets::collect;
+use crate::sets::{NumberSet, collect};
 use crate::triples::round_triples;
 use crate::{DecideError, Given, Goal, Next, Verdict};
 use bits::Ones;
@@ -17,8 +17,8 @@ fn choose(us: &[u64; 384], ce: u64, ch: u64) -> Next
     requires by_index_2 { (g : ℕ) → T (bit ch g) → g < 32 }
     ensures { Chosen us.now ce ch result }
 {
-    let for_triples = collect(us, 0, ce, [0u64; 4]);
-    let by_triples = collect(us, 32, ce, [0u64; 4]);
+    let for_triples = collect(us, 0, ce, NumberSet::empty());
+    let by_triples = collect(us, 32, ce, NumberSet::empty());
     let for_heads = collect(us, 64, ch, by_triples);
     Next {
         more: ce | ch != 0,
@@ -82,7 +82,7 @@ fn begin(goal: Goal, hd: &mut [u64; 32])
 }
 
 // The rounds, from round 0 on. The tests look at what the last round changed, and only the rules that this concerns go on. The heads of a round come
-// before its triples: both are made of what was held before it.
+// before its triples: both are made of what was held before it. The loop is left by what a round is judged, and not by a count.
 pub(crate) fn run(
     size: Size,
     goal: Goal,

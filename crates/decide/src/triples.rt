@@ -1,6 +1,7 @@
 // A round of the triples: what is run after the steps of a rule is gathered by class, and goes once through the steps of each class that has more.
 // `settle`, `settle_all` and `round_triples` have seven parameters: what is written is lent array by array, since each function writes others; size and
-// k as a struct by value made a decision of many rounds 2 to 3 % longer.
+// k as a struct by value made a decision of many rounds 2 to 3 % longer. `gather`, `settle` and `settle_all` have their like in heads.rt: those write other
+// arrays from sets of another kind, so that one function over both would need a closure over all that it writes.
 ghost use Rattle.std.specs.Prelude.{◌≡◌, ℕ, ◌+◌, ◌%◌, ◌<◌, ◌≤◌, length, get_or, set};
 ghost use Rattle.steps.specs.Steps.{symbol_of};
 ghost use Rattle.decide.specs.Stamp.{of_triples, alone};
@@ -8,7 +9,7 @@ ghost use Rattle.decide.specs.Gather.{rest_of, added, added_by, Visits, Gains};
 ghost use Rattle.decide.specs.Take.{Took, Room, Fits, given_by, from_class, from_classes, AllFit, TriplesReady, TriplesDone};
 
 use crate::Given;
-use crate::sets::{Members, add, gain};
+use crate::sets::{NumberSet, gain};
 use crate::stamps::stamp;
 use lent::Lent;
 use steps::{Kind, Row, row_at};
@@ -28,11 +29,10 @@ fn rest(row: Row, e: &[u64; 32]) -> u64
 }
 
 // Rule i adds what is run after its step to the matrix of its class. A class that has more by it is noted in the set.
-fn visit(i: usize, rules: &Lent, e: &[u64; 32], by: &mut [u64; 256], touched: &mut [u64; 4])
+fn visit(i: usize, rules: &Lent, e: &[u64; 32], by: &mut [u64; 256], touched: &mut NumberSet)
     requires i_bound { i < 256 }
-    requires touched_len { length touched.old ≡ 4 }
     requires by_len { length by.old ≡ 256 }
-    ensures { Visits (added rules.now e.now i) touched.old by.old touched.new by.new }
+    ensures { Visits (added rules.now e.now i) touched.old.words by.old touched.new.words by.new }
 {
     let row = row_at(rules, i);
     let m = rest(row, e);
@@ -43,17 +43,16 @@ fn visit(i: usize, rules: &Lent, e: &[u64; 32], by: &mut [u64; 256], touched: &m
         return;
     }
     by[c] = all;
-    add(touched, c);
+    touched.insert(c);
 }
 
 // The rules of a set. Answers the set of the classes that have more than before.
-fn gather(set: [u64; 4], rules: &Lent, e: &[u64; 32], by: &mut [u64; 256]) -> [u64; 4]
-    requires set_len { length set ≡ 4 }
-    requires by_len { length by.old ≡ 256 }
-    ensures { Gains (added_by rules.now e.now set) by.old result by.new }
+fn gather(set: NumberSet, rules: &Lent, e: &[u64; 32], by: &mut [u64; 256]) -> NumberSet
+    requires { length by.old ≡ 256 }
+    ensures { Gains (added_by rules.now e.now set.words) by.old result.words by.new }
 {
-    let mut touched = [0u64; 4];
-    for i in Members(set) {
+    let mut touched = NumberSet::empty();
+    for i in set {
         visit(i, rules, e, by, &mut touched);
     }
     touched
@@ -88,20 +87,19 @@ fn settle(
 // The symbols take in what the round gives the classes of a set. Answers the set of the symbols that changed.
 fn settle_all(
     size: Size,
-    touched: [u64; 4],
+    touched: NumberSet,
     k: u16,
     tg: &[u64; 256],
     by: &[u64; 256],
     e: &mut [u64; 32],
     triples: &mut [u16],
 ) -> u64
-    requires touched_len { length touched ≡ 4 }
     requires room { Room of_triples size e.old triples.old }
     requires all_fit { AllFit size tg.now by.now }
-    ensures { Took of_triples size k (from_classes tg.now by.now touched) e.old triples.old result e.new triples.new }
+    ensures { Took of_triples size k (from_classes tg.now by.now touched.words) e.old triples.old result e.new triples.new }
 {
     let mut changed: u64 = 0;
-    for c in Members(touched) {
+    for c in touched {
         changed = changed | settle(size, c, k, tg, by, e, triples);
     }
     changed
@@ -111,14 +109,14 @@ fn settle_all(
 pub(crate) fn round_triples(
     size: Size,
     k: u16,
-    set: [u64; 4],
+    set: NumberSet,
     given: Given,
     by: &mut [u64; 256],
     e: &mut [u64; 32],
     triples: &mut [u16],
 ) -> u64
-    requires { TriplesReady size set given.rules.now given.tg.now by.old e.old triples.old }
-    ensures { TriplesDone size k set given.entry.rules.now given.entry.tg.now by.old e.old triples.old result by.new e.new triples.new }
+    requires { TriplesReady size set.words given.rules.now given.tg.now by.old e.old triples.old }
+    ensures { TriplesDone size k set.words given.entry.rules.now given.entry.tg.now by.old e.old triples.old result by.new e.new triples.new }
 {
     let touched = gather(set, given.rules, e, by);
     settle_all(size, touched, k, given.tg, by, e, triples)

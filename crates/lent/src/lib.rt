@@ -8,7 +8,7 @@ ghost use Rattle.model.specs.Model.{in_row, move, shown, there};
 
 use model::{Move, Rule, Shape};
 
-// A model's bytes.
+// A model's bytes: lent memory of a fixed size, whose every value is allowed.
 pub type Lent = [u8; 1936];
 
 // The numbers of a rule's row: its kind (0 exit, 1 direct, 2 call), its symbol, and the symbols that it puts on top and under that. The kind stays

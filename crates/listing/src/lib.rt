@@ -35,7 +35,7 @@ impl From<TextError> for ListingError {
     }
 }
 
-// Copies the first n cells.
+// Copies the first n cells: both arrays may be longer than the table.
 fn copy(from: &[u16], to: &mut [u16], n: usize)
     requires n_in_bounds { n ≤ length from.now }
     requires n_in_bounds_2 { n ≤ length to.old }

@@ -27,7 +27,8 @@ struct Run {
     stop: u8,
 }
 
-// The numbers of a run of fields, zeros after them; a count of 0 where the fields are wrong.
+// The numbers of a run of fields, zeros after them; a count of 0 where the fields are wrong. An array of fixed size, since nothing lies on a heap; and no
+// Option, since each test of a line asks the count anyway, and so turns wrong fields away with too few.
 #[derive(Clone, Copy)]
 pub struct Numbers {
     pub count: usize,
@@ -41,7 +42,7 @@ pub struct FieldsRead {
     pub end: usize,
 }
 
-// The decimal digits of a number, most significant first, zeros after them.
+// The decimal digits of a number, most significant first, zeros after them. An array of fixed size, since nothing lies on a heap.
 #[derive(Clone, Copy)]
 pub struct Digits {
     pub count: usize,
@@ -112,7 +113,7 @@ fn wrong_fields(s: &[u8]) -> FieldsRead
     }
 }
 
-// The numbers of the fields of the line that s begins with.
+// The numbers of the fields of the line that s begins with. What is left of the line drives the loop: each field takes as many bytes as it has.
 pub fn read_fields(s: &[u8]) -> FieldsRead
     ensures { result ≡ fields_of s.now }
 {
@@ -152,7 +153,7 @@ fn put_first(b: u8, d: Digits) -> Digits
     }
 }
 
-// The decimal digits of n, taken off from its end.
+// The decimal digits of n, taken off from its end. What is left of the number drives the loop, and no index.
 pub fn write_number(n: u16) -> Digits
     ensures { result ≡ digits_of n }
 {

@@ -44,7 +44,7 @@ pub fn rank_head(cells: &mut [u16], size: Size, begun: u8, n: Numbers) -> Result
     rank_fact(cells, size, 0 < begun, f, at[2])
 }
 
-// A triple's line, likewise: its state, symbol, end state and rank.
+// A triple's line, likewise: its state, symbol, end state and rank. Two functions, since the numbers of a line are taken apart by their count.
 pub fn rank_triple(cells: &mut [u16], size: Size, begun: u8, n: Numbers) -> Result<(), Fault>
     ensures { Ranked cells.old cells.new (triple_fault size (ltb 0 begun) cells.old n) (triple_put size cells.old n) result }
 {

@@ -74,6 +74,7 @@ fn finish(m: &mut Lent, o: Outline) -> Result<(), TextError>
 }
 
 // Line by line: what stands after the last line feed is no line, and must be empty. The bytes are those of the empty record.
+// What is left of the text drives the loop: each line takes as many bytes as it has.
 fn read_lines(text: &[u8], m: &mut Lent) -> Result<(), TextError>
     requires text_len_bound { length text.now ≤ 16384 }
     requires m_value { m.old ≡ replicate 1936 0 }

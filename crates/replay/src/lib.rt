@@ -19,7 +19,7 @@ pub enum ReplayError {
     Bad(usize),
 }
 
-// The property state, and how many symbols are on the stack.
+// The property state, and how many symbols are on the stack: these lie in lent memory, so that only their number goes by value.
 #[derive(Clone, Copy)]
 pub struct Machine {
     pub state: usize,

@@ -58,7 +58,7 @@ fn take_head(heads: &mut [u16], tally: &mut Tally, size: Size, n: Numbers) -> Re
     Ok(())
 }
 
-// A triple's line.
+// A triple's line. Two functions, since a closure for the array, the counter and the call would be no plainer.
 fn take_triple(triples: &mut [u16], tally: &mut Tally, size: Size, n: Numbers) -> Result<(), Fault>
     requires { Counted tally.old }
     ensures { (hs : List ℕ) → stepped result tally.new hs triples.new ≡ triple_step size (whole tally.old hs triples.old) n }
@@ -102,7 +102,8 @@ fn finish(tally: &Tally) -> Result<(), TextError>
     Ok(())
 }
 
-// The lines of a text, one after another, from an empty tally; the first that is refused ends the reading.
+// The lines of a text, one after another, from an empty tally; the first that is refused ends the reading. What is left of the text drives the
+// loop: each line takes as many bytes as it has.
 fn read_lines(
     heads: &mut [u16],
     triples: &mut [u16],

@@ -13,7 +13,6 @@ use Rattle.product.specs.Facts.{head, triple}
 use Rattle.product.specs.Table.{absent}
 use Rattle.product.proofs.Lists.{and_left, and_right}
 use Rattle.table.specs.declared.Fact.{Fact}
-use Rattle.table.specs.declared.Fact.TheVariants.{Head, Triple}
 use Rattle.std.specs.Prelude.{Option, Some, None, is_some}
 use Rattle.table.specs.Cells.{head_cell, view}
 use Rattle.table.specs.Places.{fact_of, as_fact, place, inside, cell_of, place_of, read_at, put_at, put_in}
@@ -103,14 +102,6 @@ module _ (G Q : ℕ) (xs : List ℕ) where
   pub fact_put : (f : product.Fact) {r : Option ℕ} → r ≡ place_of G Q f → (n : ℕ) {ys : List ℕ} → ys ≡ put_at xs r n → ys ≡ put_in G Q xs f n
   fact_put (head q g) at n e = e ∙ ap (λ r. put_at xs r n) at ∙ puts (inside G Q (head q g)) (cell_of G Q (head q g)) n
   fact_put (triple q g x) at n e = e ∙ ap (λ r. put_at xs r n) at ∙ puts (inside G Q (triple q g x)) (cell_of G Q (triple q g x)) n
-
--- the array of its kind has the fact's rank
-module _ (G Q : ℕ) (hs ts : List ℕ) {f : Fact} {r : Option ℕ} where
-  pub rank_head : {q g : ℕ} → f ≡ Head q g → r ≡ place_of G Q (fact_of f) → {n : ℕ} → n ≡ read_at hs r → n ≡ view G Q hs ts (fact_of f)
-  rank_head h at e = fact_read G Q hs (fact_of f) at e ∙ rw h
-
-  pub rank_triple : {q g x : ℕ} → f ≡ Triple q g x → r ≡ place_of G Q (fact_of f) → {n : ℕ} → n ≡ read_at ts r → n ≡ view G Q hs ts (fact_of f)
-  rank_triple h at e = fact_read G Q ts (fact_of f) at e ∙ rw h
 
 -- a fact that is in range has a place
 pub has_place : (G Q : ℕ) (f : product.Fact) {r : Option ℕ} → r ≡ place_of G Q f → inside G Q f ≡ is_some r

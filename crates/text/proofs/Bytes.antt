@@ -1,11 +1,10 @@
 -- `same_bytes` tells equal lists from others, and is what `==` on slices tests. Assumes nothing.
 use mathlib.Core.Path.{◌≡◌, refl, ap, ◌∙◌}
 use Prim.Native.Nat.{ℕ}
-use mathlib.Core.Bool.{Bool, true, false, ◌&&◌}
+use mathlib.Core.Bool.{Bool, true, false}
 use mathlib.Core.List.{List, [], ◌∷◌}
 use lib.Dec.{eqb}
 use borrow.Author.Tests.{eq-eqb, eqb-true}
-use lib.Pointwise.{pointwise}
 use Rattle.text.specs.Split.{pick, same_bytes}
 
 -- it is true exactly of equal lists
@@ -25,14 +24,10 @@ unfolding same_bytes
 equal_same [] = refl
 equal_same (a ∷ more) = rw (eq-eqb a a refl) (equal_same more)
 
--- `==` on slices tests element by element
-pub same_pointwise : (a b : List ℕ) → pointwise eqb a b ≡ same_bytes a b
-unfolding same_bytes
-same_pointwise [] [] = refl
-same_pointwise [] (b ∷ bs) = refl
-same_pointwise (a ∷ more) [] = refl
-same_pointwise (a ∷ more) (b ∷ bs) = go (eqb a b) (same_pointwise more bs)
+-- lists that differ are not the same
+pub differing : (a b : List ℕ) → (a ≡ b → ⊥) → false ≡ same_bytes a b
+differing a b n = go (same_bytes a b) refl
   where
-    go : (x : Bool) → pointwise eqb more bs ≡ same_bytes more bs → (x && pointwise eqb more bs) ≡ pick x (same_bytes more bs) false
-    go true e = e
+    go : (x : Bool) → same_bytes a b ≡ x → false ≡ x
+    go true e = absurd (n (same_equal a b e))
     go false e = refl

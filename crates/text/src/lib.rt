@@ -11,9 +11,17 @@ pub fn find(s: &[u8], c: u8) -> usize
     s.iter().position(|b| *b == c).unwrap_or(s.len())
 }
 
-// Whether two slices hold the same bytes.
+// Whether two slices hold the same bytes. `==` says so too, but is a call of its own for each word of each line; this is put in place.
 pub fn same(a: &[u8], b: &[u8]) -> bool
     ensures { result ≡ same_bytes a.now b.now }
 {
-    a == b
+    if a.len() != b.len() {
+        return false;
+    }
+    for i in 0..a.len() {
+        if a[i] != b[i] {
+            return false;
+        }
+    }
+    true
 }

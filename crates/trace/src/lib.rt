@@ -80,7 +80,8 @@ fn unfold_fact(room: &mut [u16], m: &Lent, table: &Table<'_>, n: Counts, run: Ru
     unfold_fact(room, m, table, n, Run { of, at })
 }
 
-// The trace of a violation after n rounds, into the room, of a model whose shape was asked for.
+// The trace of a violation after n rounds, into the room, of a model whose shape was asked for. The arrays come one by one: what is required of them says
+// nothing of a size, and a table would.
 fn write_trace<'a>(
     room: &mut [u16],
     shape: Shape,

@@ -2,7 +2,7 @@
 use Rattle.decide.proofs.heads.round_heads.Goals as goal
 
 pub show_all-touched-requires : goal.show_all-touched-requires
-show_all-touched-requires c = record { set_len = c.requires.heads_ready.few; empty = c.requires.empty }
+show_all-touched-requires c = c.requires.empty
 
 pub settle_heads-requires : goal.settle_heads-requires
 settle_heads-requires c =

@@ -3,4 +3,4 @@ use Rattle.decide.proofs.Showing.{Left}
 use Rattle.decide.proofs.heads.show_all.Given as goal
 
 abbrev pub invariant-loop-i : goal.invariant-loop-i
-invariant-loop-i l = Left l.fn.given.rules.now l.fn.given.tg.now l.e l.hd l.fn.set l.initial.nh l.i-iterator.0 l.touched l.nh
+invariant-loop-i l = Left l.fn.given.rules.now l.fn.given.tg.now l.e l.hd l.fn.set.words l.initial.nh l.i-iterator.left.words l.touched l.nh

@@ -3,4 +3,4 @@ use Rattle.decide.proofs.Gathered.{Left}
 use Rattle.decide.proofs.triples.gather.Given as goal
 
 abbrev pub invariant-loop-i : goal.invariant-loop-i
-invariant-loop-i l = Left l.rules l.e l.fn.set l.initial.by l.i-iterator.0 l.touched l.by
+invariant-loop-i l = Left l.rules l.e l.fn.set.words l.initial.by l.i-iterator.left.words l.touched.words l.by

@@ -3,4 +3,4 @@ use Rattle.decide.proofs.Settling.{Left}
 use Rattle.decide.proofs.triples.settle_all.Given as goal
 
 abbrev pub invariant-loop-c : goal.invariant-loop-c
-invariant-loop-c l = Left l.size l.k l.fn.touched l.tg l.by l.initial.e l.initial.triples l.c-iterator.0 l.changed l.e l.triples
+invariant-loop-c l = Left l.size l.k l.fn.touched.words l.tg l.by l.initial.e l.initial.triples l.c-iterator.left.words l.changed l.e l.triples

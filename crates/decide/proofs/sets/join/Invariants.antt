@@ -1,6 +1,0 @@
--- `decide::sets::join` meets its contract. The loop's invariant: the first k words are joined. Assumes nothing.
-use Rattle.decide.proofs.Members.{JoinedTo}
-use Rattle.decide.proofs.sets.join.Given as goal
-
-abbrev pub invariant-loop-k : goal.invariant-loop-k
-invariant-loop-k l = JoinedTo l.initial.set l.sets l.s l.k l.set
