@@ -82,12 +82,13 @@ seeing text out r r' x x' a b = (
 row_one : {lent : List ℕ} {r : ℕ} → One (λ row. RowAt lent r row)
 row_one row row' a b =
     let k : row.kind ≡ row'.kind = a.kind_is ∙ sym b.kind_is in
+    let y : row.byte ≡ row'.byte = a.byte_is ∙ sym b.byte_is in
     let c : row.class ≡ row'.class = a.class_is ∙ sym b.class_is in
     let o : row.over ≡ row'.over = a.over_is ∙ sym b.over_is in
     let u : row.under ≡ row'.under = a.under_is ∙ sym b.under_is in
-    ap (λ (k : Kind). record { kind = k; class = row.class; over = row.over; under = row.under }) k
-    ∙ ap (λ (c : ℕ). record { kind = row'.kind; class = c; over = row.over; under = row.under }) c
-    ∙ ap₂ (λ (o u : ℕ). record { kind = row'.kind; class = row'.class; over = o; under = u }) o u
+    ap (λ (k : Kind). record { kind = k; byte = row.byte; class = row.class; over = row.over; under = row.under }) k
+    ∙ ap₂ (λ (y c : ℕ). record { kind = row'.kind; byte = y; class = c; over = row.over; under = row.under }) y c
+    ∙ ap₂ (λ (o u : ℕ). record { kind = row'.kind; byte = row'.byte; class = row'.class; over = o; under = u }) o u
 
 pub each_answer : OneAnswer
 each_answer = record {
@@ -115,6 +116,7 @@ each_answer = record {
   next_state = λ lent r v q n n' e e'. e.0 ∙ sym e'.0;
   product = λ a b. equal _;
   composed = λ a b. equal _;
+  rule_symbol = λ ρ. equal _;
   through = λ v b. equal _;
   class_steps_lem = λ lent. equal _;
   class_of_lem = λ lent r c c' e e'. e.0 ∙ sym e'.0;

@@ -2,6 +2,7 @@
 -- Assumes nothing.
 use Rattle.std.specs.Prelude.{Option, Bool, List, [], ◌∷◌, ◌≡◌, ℕ, ◌<◌, ◌≤◌, ltb, length, take, replicate, Result}
 use Rattle.product.specs.Lists.{over}
+use Rattle.product.specs.Product.{symbol}
 use Rattle.text.specs.Split.{first, same_bytes}
 use Rattle.numbers.specs.declared.Numbers.{Numbers}
 use Rattle.numbers.specs.Field.{fields_of}
@@ -91,6 +92,7 @@ pub record OneAnswer : Type 0 where
   -- bits
   pub product : (a b : ℕ) → One (λ r. r ≡ multiplied a b)
   pub composed : (a b : ℕ) → One (λ r. r ≡ multiplied a b)
+  pub rule_symbol : (ρ : Rule) → One (λ g. g ≡ symbol (meant ρ))
   pub through : (v b : ℕ) → One (λ r. r ≡ image v b)
   -- steps
   pub class_steps_lem : (lent : List ℕ) → One (λ r. r ≡ class_steps (model_in lent))

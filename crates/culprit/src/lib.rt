@@ -59,6 +59,7 @@ fn some_triple(m: &Lent, table: &Table<'_>, s: usize, a: usize) -> Option<Fact>
 pub fn culprit(m: &Lent, table: &Table<'_>, s: usize, a: usize) -> Option<Fact>
     ensures { result ≡ goal_as (culprit_in (product_in m.now).final table.now.size.symbols table.now.size.states table.now.heads.now table.now.triples.now s a) }
 {
+    // An `if`: with `or_else` the proof was not told what the closure's call of `some_triple` ensures.
     let head = some_head(m, table);
     if head.is_some() {
         return head;

@@ -100,7 +100,7 @@ impl Iterator for Members {
     }
 }
 
-// Puts r into set number s.
+// Puts r into set number s. The 96 sets lie in one array, 32 by triples, 32 by what is returned to and 32 by heads: it is large, and filled where it lies.
 pub(crate) fn put(sets: &mut [u64; 384], s: usize, r: usize)
     requires s_bound { s < 96 }
     requires r_bound { r < 256 }

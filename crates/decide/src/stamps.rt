@@ -16,7 +16,7 @@ pub(crate) fn stamp(triples: &mut [u16], size: Size, g: usize, bits: u64, k: u16
     }
 }
 
-// The heads of symbol g that stand in the row get the rank k.
+// The heads of symbol g that stand in the row get the rank k. By their places, since they are few; the triples are not.
 pub(crate) fn stamp_heads(heads: &mut [u16], size: Size, g: usize, bits: u64, k: u16)
     requires { Stamps of_heads size g bits heads.old }
     ensures { Became of_heads size heads.old (ranked k (named of_heads (alone g bits)) (view_of of_heads size heads.old)) heads.new }

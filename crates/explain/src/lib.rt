@@ -7,6 +7,7 @@ ghost use Rattle.table.specs.Looked.{ranks_in};
 ghost use Rattle.explain.specs.Answers.{search_in, found_as, explained};
 
 use lent::Lent;
+use model::Rule;
 use table::{Fact, Table};
 
 mod ways; // the ways in which a step may give a fact
@@ -42,6 +43,14 @@ struct Step {
     rule: usize,
     by: usize,
     free: usize,
+}
+
+// A step that is made: the state that it leads to, and its rule.
+#[derive(Clone, Copy)]
+struct Made {
+    step: Step,
+    end: usize,
+    rule: Rule,
 }
 
 // By the first rule, then the first move, then the lowest state whose needed facts all have rank at most k.

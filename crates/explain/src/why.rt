@@ -6,7 +6,7 @@ ghost use Rattle.table.specs.Looked.{ranks_in};
 ghost use Rattle.explain.specs.Answers.{found_as, rank_of, has_all, first_has};
 ghost use Rattle.explain.specs.Search.{lower, source, tried_at};
 
-use crate::{Ask, Cause, Step, ways};
+use crate::{Ask, Cause, Made, Step, ways};
 use lent::Lent;
 use table::{Fact, Table};
 
@@ -59,18 +59,14 @@ fn source(f: Fact, x: usize) -> usize
 }
 
 // The step tried for what is asked.
-pub fn tried(m: &Lent, table: &Table<'_>, ask: Ask, s: Step) -> Option<Cause>
+pub(crate) fn tried(m: &Lent, table: &Table<'_>, ask: Ask, s: Step) -> Option<Cause>
     ensures { result ≡ found_as (tried_at (product_in m.now) (lower (ranks_in table.now) (suc ask.k)) (fact_of ask.f) s.rule s.by s.free) }
 {
     let f = ask.f;
-    let next = lent::next_state(m, s.rule, s.by, source(f, s.free));
-    match next {
-        None => None,
-        Some(y) => {
-            let rule = lent::rule_at(m, s.rule);
-            let first = ways::first(s, y, rule, f);
-            let second = ways::second(s, y, rule, f);
-            first_lower(table, ask.k, first, second)
-        }
-    }
+    let end = lent::next_state(m, s.rule, s.by, source(f, s.free))?;
+    let rule = lent::rule_at(m, s.rule);
+    let made = Made { step: s, end, rule };
+    let first = ways::first(made, f);
+    let second = ways::second(made, f);
+    first_lower(table, ask.k, first, second)
 }

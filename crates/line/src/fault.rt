@@ -13,7 +13,8 @@ pub enum Fault {
     TooMany = 5,
 }
 
-// Why a text is refused: it is too long, or one of its lines is wrong, counted from 1, with 0 where no line is.
+// Why a text is refused: it is too long, or one of its lines is wrong, counted from 1, with 0 where no line is: so the
+// description counts and prints it.
 #[derive(Clone, Copy, PartialEq, Eq, Debug)]
 pub enum TextError {
     TooLong,

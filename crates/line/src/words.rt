@@ -13,7 +13,7 @@ pub trait Words: Copy + 'static {
 
     ghost UNKNOWN: { Self };
 
-    // The word of a line that begins with none of them.
+    // The word of a line that begins with none of them. One more word and no `Option`, since what a line of each word does is said by one list of cases.
     const UNKNOWN: Self;
 
     // Each with its bytes.

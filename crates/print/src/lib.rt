@@ -14,7 +14,8 @@ pub fn place(n: usize, at: usize) -> usize
     at.min(n.saturating_add(1))
 }
 
-// Puts one byte. The answer is a place and no `Option`: what is put behind a cut is dropped by its place, and no caller tests for a cut.
+// Puts one byte. The answer is a place and no `Option`: what is put behind a cut is dropped by its place,
+// and only the last caller asks whether something was cut.
 pub fn put(out: &mut [u8], at: usize, b: u8) -> usize
     ensures { Put out.old out.new at result (b ∷ []) }
 {

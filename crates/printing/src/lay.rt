@@ -1,4 +1,4 @@
-// A line put where it has room: no byte of it needs a test of its own.
+// A line put where it has room: no byte of it needs a test of its own. It stands beside `print`, which tests each, for speed: most of a listing is such lines.
 ghost use Rattle.std.specs.Prelude.{◌≡◌, ◌+◌, ◌*◌, ◌≤◌, length};
 ghost use Rattle.numbers.specs.Digits.{decimal};
 ghost use Rattle.print.specs.Bytes.{field_bytes, line_bytes};

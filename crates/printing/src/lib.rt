@@ -22,7 +22,7 @@ pub enum Kind {
     Triple,
 }
 
-// How many bytes the whole listing has; or that `out` has not room for all of them.
+// How many bytes the whole listing has; or that `out` has not room for all of them: no `Option`, since a listing that is cut is no listing that is not there.
 #[derive(Clone, Copy, PartialEq, Eq, Debug)]
 pub enum Written {
     Bytes(usize),

@@ -22,7 +22,6 @@ use Rattle.model.specs.Answers.{rule_as, meant}
 use Rattle.model.specs.Model.{product_of, rule}
 use Rattle.model.specs.Valid.{valid}
 use Rattle.model.proofs.Answers.{meant_as}
-use Rattle.model.proofs.Counted.{passed, failed}
 use Rattle.model.proofs.Valid.{all_below, valid_sizes, product_in_lem}
 use Rattle.steps.specs.Steps.{class_of, class_steps}
 use Rattle.steps.proofs.Laws.{class_of_lem, steps_in, steps_lt, step_entry, entry_step}
@@ -38,18 +37,21 @@ use Rattle.recheck.specs.Tests.{step_kept, steps_kept, step, is_closed, is_open,
 use Rattle.recheck.proofs.Finding.{hit, miss}
 use Rattle.recheck.proofs.Matrices.{triple_in_lem}
 
+-- a test that the code turns about
+pub open_if : (b : Bool) → true ≡ not b → b ≡ false
+open_if false e = refl
+open_if true e = e
+
+pub kept_if : (b : Bool) → false ≡ not b → T b
+kept_if true e = tt
+kept_if false e = subst⁻¹ T e tt
+
 -- what the code was answered of rule r
 module _ (m : Model) (tg ts hs : List ℕ) (r : ℕ) {c : ℕ} {ρ : Rule} {b : Bool} (class : c ≡ class_of m r) (read : ρ ≡ rule_as (rule m r))
     (tested : b ≡ rule_closed ts hs (get_or tg c 0) (meant ρ)) where
-  by_matrices : b ≡ closed_by m tg ts hs r
+  pub by_matrices : b ≡ closed_by m tg ts hs r
   unfolding closed_by
   by_matrices = tested ∙ ap (λ c. rule_closed ts hs (get_or tg c 0) (meant ρ)) class ∙ ap (rule_closed ts hs (get_or tg (class_of m r) 0)) (ap meant read ∙ meant_as (rule m r))
-
-  pub opens : b ≡ false → closed_by m tg ts hs r ≡ false
-  opens h = failed by_matrices h
-
-  pub closes : b ≡ true → T (closed_by m tg ts hs r)
-  closes h = rw (passed by_matrices h) tt
 
 -- the matrices that the code made are those of the facts
 module _ (m : Model) (v : T (valid m)) (heads triples : List ℕ) where

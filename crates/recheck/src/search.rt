@@ -29,12 +29,15 @@ fn steps_kept(m: &Lent, table: &Table<'_>, r: usize, v: usize) -> bool
 fn open_move(m: &Lent, table: &Table<'_>, moves: usize, r: usize) -> Option<usize>
     ensures { FirstOpen (steps_kept (product_in m.now) table.now.size.states (held_in table.now) r) moves result }
 {
-    for v in 0..moves {
-        if !steps_kept(m, table, r, v) {
-            return Some(v);
-        }
-    }
-    None
+    (0..moves).find(|v| !steps_kept(m, table, r, *v))
+}
+
+// Rule r is closed, by matrices.
+fn closed_by(m: &Lent, tg: &[u64; 256], ts: &[u64; 32], hs: &[u64; 32], r: usize) -> bool
+    ensures { result ≡ closed_by (model_in m.now) tg.now ts.now hs.now r }
+{
+    let c = steps::class_of(m, r);
+    closed::rule_closed(ts, hs, tg[c], lent::rule_at(m, r))
 }
 
 // The first rule that is not closed, by matrices.
@@ -47,13 +50,7 @@ fn open_rule<'a>(
 ) -> Option<usize>
     ensures { FirstOpen (closed_by (model_in m.now) tg.now ts.now hs.now) rules result }
 {
-    for r in 0..rules {
-        let c = steps::class_of(m, r);
-        if !closed::rule_closed(ts, hs, tg[c], lent::rule_at(m, r)) {
-            return Some(r);
-        }
-    }
-    None
+    (0..rules).find(|r| !closed_by(m, tg, ts, hs, *r))
 }
 
 // The first rule, and its first move, that are not closed. Rule by rule matrices decide; only for a rule that is not closed are its moves tried.

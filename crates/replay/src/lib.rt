@@ -122,8 +122,8 @@ fn run(m: &Lent, steps: &[u16], stack: &mut [u8]) -> Result<(), ReplayError>
         depth: 1,
     };
     let mut accepting = is_final(m, start);
-    for k in 0..steps.len() {
-        let outcome = step(m, stack, at, steps[k], k + 1);
+    for (k, n) in steps.iter().enumerate() {
+        let outcome = step(m, stack, at, *n, k + 1);
         match outcome {
             Outcome::Blocked(number) => {
                 return Err(ReplayError::Bad(number));

@@ -29,6 +29,7 @@ use Rattle.model.proofs.Valid.{valid_sizes, product_in_lem}
 use Rattle.fitting.proofs.Tested.{ample, tested_well}
 use Rattle.decide.specs.Decided.{within, decision, heads_left, triples_left}
 use Rattle.std.specs.Prelude.{Ok, Err}
+use Rattle.fitting.specs.declared.Unfit.{Unfit}
 use Rattle.fitting.specs.declared.Unfit.TheVariants.{Invalid, Short}
 use Rattle.decide.specs.declared.DecideError.{DecideError}
 use Rattle.decide.specs.declared.DecideError.TheVariants.{Refused, Spent}
@@ -71,6 +72,17 @@ module _ (m : Model) (rounds : ℕ) {hs ts out after : List ℕ} {w : printing.W
 
   pub listing_put : {w' : printing.WriteAnswer} → w ≡ w' → Put out after 0 (place_of (printing.meaning w') (length after)) (bytes_of m rounds hs ts)
   listing_put e = record { place = ap (λ w. place_of (printing.meaning w) (length after)) (sym e) ∙ same_place; cells = as_set }
+
+-- so that it is never refused
+pub never_refused_listing : (m : Model) (rounds : ℕ) {hs ts out after : List ℕ} (t : Fits m (length hs) (length ts)) {w : printing.WriteAnswer} (u : Unfit) → w ≡ Err u → Writes m rounds hs ts out after w → ⊥
+never_refused_listing m rounds {hs} {ts} {out} t Invalid q x =
+    let e : ◌≡◌ {A = Answer Listed} (refused 6 (0 ∷ [])) (answered (fitted (length (bytes_of m rounds hs ts)) (length out))) = sym (ap printing.meaning q) ∙ as_fitted m rounds t x in
+    let z : ◌≡◌ {A = ℕ} 0 1 = cc in
+    omega arith
+never_refused_listing m rounds {hs} {ts} {out} t Short q x =
+    let e : ◌≡◌ {A = Answer Listed} (refused 7 (0 ∷ [])) (answered (fitted (length (bytes_of m rounds hs ts)) (length out))) = sym (ap printing.meaning q) ∙ as_fitted m rounds t x in
+    let z : ◌≡◌ {A = ℕ} 0 1 = cc in
+    omega arith
 
 -- the budget, as it is multiplied out
 module _ (m : Model) (v : T (valid m)) where

@@ -25,7 +25,7 @@ fn put_safe(out: &mut [u8], m: &Lent, rounds: u16, heads: &[u16], triples: &[u16
     match w {
         Ok(Written::Bytes(n)) => n,
         Ok(Written::Cut) => out.len() + 1,
-        Err(_) => 0,
+        Err(_) => unreachable!(),
     }
 }
 

@@ -16,6 +16,7 @@ const LONGEST: usize = 45056;
 
 // What is read so far beside the ranks: the header, and how many lines of each kind came. The ranks are collected in two lent arrays.
 // The lines are counted in numbers of the machine's width: so the compiler keeps each count in a register of its own.
+// `begun` stands beside the header's numbers, and no `Option` of a header: what is promised of a tally speaks of each of them, before the header too.
 #[derive(Clone, Copy, Default)]
 pub struct Tally {
     pub begun: bool,
@@ -133,7 +134,8 @@ fn read_lines(
     finish(tally)
 }
 
-// A whole text, unless it is too long; its ranks come to those in the two lent arrays, and the rest to an empty tally.
+// A whole text, unless it is too long; its ranks come to those in the two lent arrays, and the rest to an empty tally. It is lent,
+// and no result, since what stands in it where a line is refused is promised too.
 pub fn read_text(
     heads: &mut [u16],
     triples: &mut [u16],

@@ -28,19 +28,19 @@ use Rattle.steps.proofs.Laws.{symbol_same}
 
 -- the numbers where they lie
 module _ (cells : List ℕ) (r : ℕ) where
-  pub row_read : r < 256 → {k : Kind} {c o u : ℕ} → k ≡ kind_of (get_or cells (4 * r) 0) → (c ≡ get_or cells (4 * r + 1) 0) × (c < 256)
+  pub row_read : r < 256 → {k : Kind} {y c o u : ℕ} → (k ≡ kind_of (get_or cells (4 * r) 0)) × (y ≡ get_or cells (4 * r) 0) → (c ≡ get_or cells (4 * r + 1) 0) × (c < 256)
       → (o ≡ get_or cells (4 * r + 2) 0 % 32) × (o < 32) → (u ≡ get_or cells (4 * r + 3) 0 % 32) × (u < 32)
-      → RowAt cells r (record { kind = k; class = c; over = o; under = u })
+      → RowAt cells r (record { kind = k; byte = y; class = c; over = o; under = u })
   unfolding kind_at class_at over_at under_at
-  row_read l k (c, c') (o, o') (u, u') =
+  row_read l (k, y) (c, c') (o, o') (u, u') =
       let e = lt-ltb r 256 l in
-      record { kind_is = rw e k; class_is = rw e c; over_is = rw e o; under_is = rw e u; class_in = c'; over_in = o'; under_in = u' }
+      record { kind_is = rw e k; byte_is = rw e y; class_is = rw e c; over_is = rw e o; under_is = rw e u; class_in = c'; over_in = o'; under_in = u' }
 
-  pub row_past : 256 ≤ r → RowAt cells r (record { kind = Exit; class = 0; over = 0; under = 0 })
+  pub row_past : 256 ≤ r → RowAt cells r (record { kind = Exit; byte = 0; class = 0; over = 0; under = 0 })
   unfolding kind_at class_at over_at under_at
   row_past l =
       let e = le-ltb r 256 l in
-      record { kind_is = rw e; class_is = rw e; over_is = rw e; under_is = rw e; class_in = omega arith; over_in = omega arith; under_in = omega arith }
+      record { kind_is = rw e; byte_is = rw e; class_is = rw e; over_is = rw e; under_is = rw e; class_in = omega arith; over_in = omega arith; under_in = omega arith }
 
 by_kind : (k g g1 g2 : ℕ) → model.rule_by k g g1 g2 ≡ rule_by k g g1 g2
 by_kind zero g g1 g2 = refl

@@ -28,6 +28,7 @@ kind_of (suc (suc k)) = Call
 -- the numbers of rule r were read
 pub record RowAt (cells : List ℕ) (r : ℕ) (row : Row) : Type 0 where
   pub kind_is : row.kind ≡ kind_of (kind_at cells r)
+  pub byte_is : row.byte ≡ kind_at cells r
   pub class_is : row.class ≡ class_at cells r
   pub over_is : row.over ≡ over_at cells r
   pub under_is : row.under ≡ under_at cells r

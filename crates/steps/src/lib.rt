@@ -34,10 +34,12 @@ impl From<u8> for Kind {
     }
 }
 
-// A rule by its numbers: its kind, its class, the symbol that it puts on top, and the one under that. Those that a rule does not use may be anything.
+// A rule by its numbers: its kind, and the byte that says it (any from 2 on is a call); its class, the symbol that it puts on top, and the one under
+// that. Those that a rule does not use may be anything.
 #[derive(Clone, Copy)]
 pub struct Row {
     pub kind: Kind,
+    pub byte: u8,
     pub class: usize,
     pub over: usize,
     pub under: usize,
@@ -147,6 +149,7 @@ pub fn row_at(m: &Lent, r: usize) -> Row
     if 256 <= r {
         return Row {
             kind: Kind::Exit,
+            byte: 0,
             class: 0,
             over: 0,
             under: 0,
@@ -155,6 +158,7 @@ pub fn row_at(m: &Lent, r: usize) -> Row
     let at = 4 * r;
     Row {
         kind: Kind::from(m[at]),
+        byte: m[at],
         class: usize::from(m[at + 1]),
         over: low(m[at + 2]),
         under: low(m[at + 3]),

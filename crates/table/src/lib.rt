@@ -10,7 +10,8 @@ ghost use Rattle.table.specs.Looked.{held_in, ranks_in};
 // The number that marks a fact that isn't held.
 pub const ABSENT: u16 = 65535;
 
-// How many symbols and states a table is for.
+// How many symbols and states a table is for. Where a number of them is widened, here and in the crates above, it is by `as`: in a proof that is the number
+// itself, and `usize::from` a call with a clause.
 #[derive(Clone, Copy)]
 pub struct Size {
     pub symbols: u8,

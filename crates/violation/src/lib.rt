@@ -74,8 +74,8 @@ fn put_first(out: &mut [u8], whole: bool, rounds: u16, count: u16) -> usize
     print::put_named(out, 0, b"violation", &row, b"cut")
 }
 
-// Puts a violation of whose trace the first `count` steps are there: all of them, or as many as were not cut. The count stays beside the steps: the clause
-// allows any, and a slice cut to it would not.
+// Puts a violation of whose trace the first `count` steps are there: all of them, or as many as were not cut. The count and `whole` stay beside the
+// steps: the clause allows any of them, and a slice cut to the count would not.
 pub fn put_violation(
     out: &mut [u8],
     m: &Lent,

@@ -1,23 +1,17 @@
-use native.Mathlib.Omega.{arith}
+-- `recheck::search::open_move` meets its contract. Assumes nothing.
+use mathlib.Core.Bool.{false}
+use mathlib.Core.Path.{◌≡◌}
+use borrow.Author.Rules.{rules}
 use lib.Dec.{T}
-use borrow.Author.Count.{below_more}
 use Rattle.lent.specs.Lending.{product_in}
-use Rattle.model.proofs.Counted.{passed, failed}
+use Rattle.product.proofs.Ranges.{first_below}
 use Rattle.table.specs.Looked.{held_in}
 use Rattle.recheck.specs.Tests.{steps_kept}
+use Rattle.recheck.proofs.Rules.{open_if, kept_if}
 use Rattle.recheck.proofs.search.open_move.Goals as goal
 
-pub loop-v-init : goal.loop-v-init
-loop-v-init c = λ j l. absurd (omega arith)
-
-pub returns-then-not-steps_kept : goal.returns-then-not-steps_kept
-returns-then-not-steps_kept c = (omega arith, failed c.steps_kept.ensures c.if-not-steps_kept.true, c.loop-v.invariant)
-
-pub loop-v-preserved : goal.loop-v-preserved
-loop-v-preserved c =
+pub returns : goal.returns
+returns c =
     let a = c.args in
     let p = steps_kept (product_in a.m.now) a.table.now.size.states (held_in a.table.now) a.r in
-    below_more (λ j. T (p j)) c.loop-v.v c.loop-v.invariant (rw (passed c.steps_kept.ensures c.if-not-steps_kept.false) tt)
-
-pub returns : goal.returns
-returns c = λ j l. c.loop-v.invariant j (omega arith)
+    first_below (λ v. p v ≡ false) (λ v. T (p v)) _ _ c.find.ensures.ran (λ x q k. open_if _ (search rules)) (λ x q k. (search rules, kept_if _ (search rules)))
