@@ -1,2 +1,0 @@
--- What a program's one call gives. Assumes nothing.
-pub mod Calls
