@@ -1,5 +1,4 @@
 // A round of the heads: where the steps of a rule end, there is a head of what it puts on top, and of what lies under that once it is erased.
-// `round_heads` has eight parameters: what is written is lent array by array, since each function writes others (see triples.rt).
 ghost use Rattle.std.specs.Prelude.{◌≡◌, ◌&&◌, ℕ, ◌<◌, eqb, length};
 ghost use Rattle.bits.specs.Bit.{bit};
 ghost use Rattle.steps.specs.Rows.{class_at};
@@ -111,7 +110,6 @@ fn settle_heads(
 
 // The heads of round k, by the rules of a set. The rows nh are empty before and after. Answers the set of the symbols that changed.
 pub(crate) fn round_heads(
-    size: Size,
     k: u16,
     set: NumberSet,
     given: Given,
@@ -120,10 +118,10 @@ pub(crate) fn round_heads(
     hd: &mut [u64; 32],
     heads: &mut [u16],
 ) -> u64
-    requires heads_ready { HeadsReady size set.words given.rules.now given.tg.now e.now hd.old heads.old }
+    requires heads_ready { HeadsReady given.size set.words given.rules.now given.tg.now e.now hd.old heads.old }
     requires empty { Empty 32 nh.old }
-    ensures { HeadsDone size k set.words given.entry.rules.now given.entry.tg.now e.now hd.old heads.old result nh.new hd.new heads.new }
+    ensures { HeadsDone given.entry.size k set.words given.entry.rules.now given.entry.tg.now e.now hd.old heads.old result nh.new hd.new heads.new }
 {
     let touched = show_all(set, given, e, hd, nh);
-    settle_heads(size, touched, k, nh, hd, heads)
+    settle_heads(given.size, touched, k, nh, hd, heads)
 }

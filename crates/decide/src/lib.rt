@@ -53,9 +53,10 @@ struct Next {
     wh: NumberSet,
 }
 
-// What the rounds are run on, and leave as it is: the rules, for each class the matrix of its steps, and the sets of rules by what they need.
+// What the rounds are run on, and leave as it is: the size, the rules, for each class the matrix of its steps, and the sets of rules by what they need.
 #[derive(Clone, Copy)]
 struct Given<'a> {
+    size: Size,
     rules: &'a Lent,
     tg: &'a [u64; 256],
     us: &'a [u64; 384],
@@ -100,11 +101,12 @@ fn run(
     let mut us = [0u64; 384];
     let first = first_rules(m, shape.rules, goal.symbol, &mut us);
     let given = Given {
+        size: size,
         rules: m,
         tg: &tg,
         us: &us,
     };
-    rounds::run(size, goal, first, given, heads, triples, budget)
+    rounds::run(goal, first, given, heads, triples, budget)
 }
 
 // Decides a model within a budget of rounds, and leaves in the arrays the ranks of the facts held. Nothing is written on 6 and 7.

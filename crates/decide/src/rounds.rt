@@ -9,7 +9,6 @@ use crate::sets::{NumberSet, collect};
 use crate::triples::round_triples;
 use crate::{DecideError, Given, Goal, Next, Verdict};
 use bits::Ones;
-use table::Size;
 
 // The rules for the next round: those that need a triple or a head of a symbol that changed, ce for triples and ch for heads.
 fn choose(us: &[u64; 384], ce: u64, ch: u64) -> Next
@@ -84,7 +83,6 @@ fn begin(goal: Goal, hd: &mut [u64; 32])
 // The rounds, from round 0 on. The tests look at what the last round changed, and only the rules that this concerns go on. The heads of a round come
 // before its triples: both are made of what was held before it. The loop is left by what a round is judged, and not by a count.
 pub(crate) fn run(
-    size: Size,
     goal: Goal,
     first: Next,
     given: Given,
@@ -92,8 +90,8 @@ pub(crate) fn run(
     triples: &mut [u16],
     budget: u32,
 ) -> Result<Verdict, DecideError>
-    requires { Driving size goal first given.rules.now given.tg.now given.us.now heads.old triples.old }
-    ensures { Driven size goal first given.entry.rules.now given.entry.tg.now given.entry.us.now heads.old triples.old budget result heads.new triples.new }
+    requires { Driving given.size goal first given.rules.now given.tg.now given.us.now heads.old triples.old }
+    ensures { Driven given.entry.size goal first given.entry.rules.now given.entry.tg.now given.entry.us.now heads.old triples.old budget result heads.new triples.new }
 {
     let mut by = [0u64; 256]; // what the classes have gathered
     let mut nh = [0u64; 32]; // the rows of a round
@@ -109,8 +107,8 @@ pub(crate) fn run(
         n += 1;
         let wh = t.wh;
         let wt = t.wt;
-        let ch = round_heads(size, n, wh, given, &e, &mut nh, &mut hd, heads);
-        let ce = round_triples(size, n, wt, given, &mut by, &mut e, triples);
+        let ch = round_heads(n, wh, given, &e, &mut nh, &mut hd, heads);
+        let ce = round_triples(n, wt, given, &mut by, &mut e, triples);
         t = choose(given.us, ce, ch);
     }
 }

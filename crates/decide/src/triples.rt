@@ -1,5 +1,5 @@
 // A round of the triples: what is run after the steps of a rule is gathered by class, and goes once through the steps of each class that has more.
-// `settle`, `settle_all` and `round_triples` have seven parameters: what is written is lent array by array, since each function writes others; size and
+// `settle` and `settle_all` have seven parameters: what is written is lent array by array, since each function writes others; size and
 // k as a struct by value made a decision of many rounds 2 to 3 % longer. `gather`, `settle` and `settle_all` have their like in heads.rt: those write other
 // arrays from sets of another kind, so that one function over both would need a closure over all that it writes.
 ghost use Rattle.std.specs.Prelude.{◌≡◌, ℕ, ◌+◌, ◌%◌, ◌<◌, ◌≤◌, length, get_or, set};
@@ -107,7 +107,6 @@ fn settle_all(
 
 // The triples of round k, by the rules of a set. Answers the set of the symbols that changed.
 pub(crate) fn round_triples(
-    size: Size,
     k: u16,
     set: NumberSet,
     given: Given,
@@ -115,9 +114,9 @@ pub(crate) fn round_triples(
     e: &mut [u64; 32],
     triples: &mut [u16],
 ) -> u64
-    requires { TriplesReady size set.words given.rules.now given.tg.now by.old e.old triples.old }
-    ensures { TriplesDone size k set.words given.entry.rules.now given.entry.tg.now by.old e.old triples.old result by.new e.new triples.new }
+    requires { TriplesReady given.size set.words given.rules.now given.tg.now by.old e.old triples.old }
+    ensures { TriplesDone given.entry.size k set.words given.entry.rules.now given.entry.tg.now by.old e.old triples.old result by.new e.new triples.new }
 {
     let touched = gather(set, given.rules, e, by);
-    settle_all(size, touched, k, given.tg, by, e, triples)
+    settle_all(given.size, touched, k, given.tg, by, e, triples)
 }

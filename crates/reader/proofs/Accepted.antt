@@ -47,7 +47,18 @@ module _ {s : Said} {d : Draft} (h : Good s d) (started : d.started ≡ 0 → �
   unfolding valid
   good_valid =
       let z = h.sizes in
-      rw (le-leb 1 d.model.symbols z.some_symbol, le-leb d.model.symbols 32 z.most_symbols, le-leb 1 d.model.states z.some_state, le-leb d.model.states 8 z.most_states, le-leb 1 d.model.events z.some_event, le-leb d.model.events 16 z.most_events, le-leb d.model.rules 256 h.rules.few, le-leb d.model.moves 128 h.moves.few, lt-ltb d.model.startstate d.model.states (h.start.state_in started), lt-ltb d.model.startsymbol d.model.symbols (h.start.symbol_in started))
+      rw (
+        le-leb 1 d.model.symbols z.some_symbol,
+        le-leb d.model.symbols 32 z.most_symbols,
+        le-leb 1 d.model.states z.some_state,
+        le-leb d.model.states 8 z.most_states,
+        le-leb 1 d.model.events z.some_event,
+        le-leb d.model.events 16 z.most_events,
+        le-leb d.model.rules 256 h.rules.few,
+        le-leb d.model.moves 128 h.moves.few,
+        lt-ltb d.model.startstate d.model.states (h.start.state_in started),
+        lt-ltb d.model.startsymbol d.model.symbols (h.start.symbol_in started),
+      )
       (both (all (rule_in d.model) (up_to d.model.rules)) (all (move_in d.model) (up_to d.model.moves))
       (all_of (λ r. T (rule_in d.model r)) (rule_in d.model) (λ _ t. t) (up_to d.model.rules) (All-up_to (λ r. T (rule_in d.model r)) d.model.rules h.rules.all_in))
       (all_of (λ v. T (move_in d.model v)) (move_in d.model) (λ _ t. t) (up_to d.model.moves) (All-up_to (λ v. T (move_in d.model v)) d.model.moves h.moves.all_in)))

@@ -20,10 +20,20 @@ pub returns-then-not-shows : goal.returns-then-not-shows
 unfolding model_in
 returns-then-not-shows c =
     let a = c.args in
-    let m = model_in a.m.now in record { value = is_there m a.r a.v a.q (sym c.has.ensures ∙ c.if-not-has.false) (is_unseen m.rulerows m.moverows m.shows a.r a.v a.q c.move_at-by.ensures.value c.if-by-q.false c.rule_at.ensures c.symbol-g.ensures c.shows.ensures (c.if-not-shows.true)); in_byte = tt }
+    let m = model_in a.m.now in
+    record {
+      value = is_there m a.r a.v a.q (sym c.has.ensures ∙ c.if-not-has.false)
+          (is_unseen m.rulerows m.moverows m.shows a.r a.v a.q c.move_at-by.ensures.value c.if-by-q.false c.rule_at.ensures c.symbol-g.ensures c.shows.ensures (c.if-not-shows.true));
+      in_byte = tt;
+    }
 
 pub returns : goal.returns
 unfolding model_in
 returns c =
     let a = c.args in
-    let m = model_in a.m.now in record { value = is_there m a.r a.v a.q (sym c.has.ensures ∙ c.if-not-has.false) (is_step m.rulerows m.moverows m.shows a.r a.v a.q c.move_at-by.ensures.value c.if-by-q.false c.rule_at.ensures c.symbol-g.ensures c.shows.ensures (c.if-not-shows.false)); in_byte = c.move_at-by.ensures.target_bound }
+    let m = model_in a.m.now in
+    record {
+      value = is_there m a.r a.v a.q (sym c.has.ensures ∙ c.if-not-has.false)
+          (is_step m.rulerows m.moverows m.shows a.r a.v a.q c.move_at-by.ensures.value c.if-by-q.false c.rule_at.ensures c.symbol-g.ensures c.shows.ensures (c.if-not-shows.false));
+      in_byte = c.move_at-by.ensures.target_bound;
+    }

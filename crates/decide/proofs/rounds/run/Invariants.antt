@@ -6,7 +6,7 @@ use Rattle.decide.proofs.rounds.run.Given as goal
 
 abbrev pub invariant-loop-d : goal.invariant-loop-d
 invariant-loop-d l =
-    Empty 32 l.nh × Going l.size l.goal l.initial.t l.given.rules.now l.given.tg.now l.given.us.now l.initial.heads l.initial.triples l.budget l.n l.t l.by l.e l.hd l.heads l.triples
+    Empty 32 l.nh × Going l.given.size l.goal l.initial.t l.given.rules.now l.given.tg.now l.given.us.now l.initial.heads l.initial.triples l.budget l.n l.t l.by l.e l.hd l.heads l.triples
 
 abbrev pub decreases-loop-d : goal.decreases-loop-d
 decreases-loop-d l =
