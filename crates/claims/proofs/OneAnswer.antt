@@ -5,7 +5,7 @@ use mathlib.Core.Path.{◌≡◌, refl, sym, ap, ap₂, ◌∙◌}
 use Prim.Native.Nat.{ℕ}
 use native.Mathlib.Omega.{arith}
 use lib.Dec.{eqb}
-use Rattle.std.specs.Prelude.{Result, Ok, Err}
+use Rattle.std.specs.Prelude.{None, Some, Result, Ok, Err}
 use Rattle.std.specs.Result.{is_ok}
 use Rattle.text.specs.Put.{Put}
 use Rattle.line.proofs.Faults.{number_within, fault_by, same_fault, same_check}
@@ -17,6 +17,8 @@ use Rattle.line.specs.declared.words.Line as words
 use Rattle.modelline.specs.declared.Word.{Word}
 use Rattle.draft.specs.declared.Outline.{Outline}
 use Rattle.draft.specs.Written.{Notes}
+use Rattle.bits.specs.declared.Ones.{Ones}
+use Rattle.bits.specs.Ones.{TakesLowest}
 use Rattle.steps.specs.declared.Kind.{Kind}
 use Rattle.steps.specs.Rows.{RowAt}
 use Rattle.rows.specs.declared.Tally.{Tally}
@@ -78,6 +80,13 @@ seeing text out r r' x x' a b = (
   ap₂ (λ (after cells : List ℕ). (after, cells)) (a.puts.cells ∙ sym b.puts.cells) (a.reads ∙ sym b.reads),
 )
 
+-- the lowest bit taken, and the others
+taken : (s : Ones) → Both (λ r left. TakesLowest s r left)
+taken s None None t t' (_, a) (_, b) = (refl, ap (λ (n : ℕ). record { 0 = n }) (a ∙ sym b))
+taken s None (Some i) t t' (z, _) b = let n = b.some_left in absurd (omega arith)
+taken s (Some i) None t t' a (z, _) = let n = a.some_left in absurd (omega arith)
+taken s (Some i) (Some j) t t' a b = (ap (λ i. Some i) (a.place ∙ sym b.place), ap (λ (n : ℕ). record { 0 = n }) (a.others ∙ sym b.others))
+
 -- a rule's numbers
 row_one : {lent : List ℕ} {r : ℕ} → One (λ row. RowAt lent r row)
 row_one row row' a b =
@@ -118,6 +127,8 @@ each_answer = record {
   composed = λ a b. equal _;
   rule_symbol = λ ρ. equal _;
   through = λ v b. equal _;
+  next_one = λ s. taken s;
+  kind_from = λ n. equal _;
   class_steps_lem = λ lent. equal _;
   class_of_lem = λ lent r c c' e e'. e.0 ∙ sym e'.0;
   symbol_of_lem = λ c g g' e e'. e.0 ∙ sym e'.0;
@@ -125,6 +136,8 @@ each_answer = record {
   states_after_lem = λ lent tg r from. equal _;
   spells = λ s w. equal _;
   read_from = λ s b. equal _;
+  words = λ words r r' e e'. e ∙ sym e';
+  read_line = λ words other s. equal _;
   model_line = λ s. equal _;
   listing_line = λ s. equal _;
   fault_number = λ f. equal _;
@@ -150,6 +163,11 @@ each_answer = record {
   next_kept_lem = λ t q ρ n. equal _;
   rule_closed_lem = λ triples heads steps ρ. equal _;
   explain = λ lent t n f. equal _;
+  decide_error = λ unfit. equal _;
+  trace_error = λ undecided. equal _;
+  check_error = λ unfit. equal _;
+  listing_unfit = λ unfit. equal _;
+  listing_text = λ wrong. equal _;
   front = λ out k. equal _;
   put_violation = λ m whole rounds count out steps. put out 0 _;
   read_or_refuse = λ text out. seeing text out;

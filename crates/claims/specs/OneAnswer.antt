@@ -1,6 +1,9 @@
--- The public calls that OneOutcome does not name: any two outcomes that a contract allows coincide. An entry a call, in its contract's own words.
+-- The public calls that OneOutcome does not name, but `input::read_full` and `program::answer`, whose answers are the input's and the call's: any two
+-- outcomes that a contract allows coincide. An entry a call, in its contract's own words. Of `line::Words::words` the contract fixes what its words spell, and
+-- that coincides. `next` of `bits::Ones` has an entry too, and so has each `From` of `steps::Kind` and of the errors.
 -- Assumes nothing.
-use Rattle.std.specs.Prelude.{Option, Bool, List, [], ◌∷◌, ◌≡◌, ℕ, ◌<◌, ◌≤◌, ltb, length, take, replicate, Result}
+use Rattle.std.specs.Prelude.{Option, Bool, List, [], ◌∷◌, ◌≡◌, ℕ, ◌<◌, ◌≤◌, ltb, length, map, take, replicate, Result}
+use Rattle.std.specs.Borrow.{Bor}
 use Rattle.product.specs.Lists.{over}
 use Rattle.product.specs.Product.{symbol}
 use Rattle.text.specs.Split.{first, same_bytes}
@@ -22,12 +25,15 @@ use Rattle.model.specs.Model.{move}
 use Rattle.model.specs.Valid.{valid}
 use Rattle.lent.specs.Lending.{shape_in, model_in, product_in, next_by, InByte}
 use Rattle.bits.specs.Matrix.{multiplied, image}
-use Rattle.steps.specs.Rows.{RowAt}
+use Rattle.bits.specs.declared.Ones.{Ones}
+use Rattle.bits.specs.Ones.{TakesLowest}
+use Rattle.steps.specs.Rows.{RowAt, kind_of}
 use Rattle.steps.specs.Steps.{class_of, symbol_of, class_steps, states_after}
 use Rattle.line.specs.Line as line
 use Rattle.line.specs.declared.fault.Fault.{Fault}
 use Rattle.line.specs.declared.fault.TextError.{TextError}
 use Rattle.line.specs.Fault.{number_of, number_in, text_number, text_line}
+use Rattle.line.specs.Words.{spelled, line_at}
 use Rattle.line.specs.declared.words.Line.{Line}
 use Rattle.modelline.specs.declared.Word.{Word}
 use Rattle.modelline.specs.Line as modelline
@@ -36,7 +42,13 @@ use Rattle.limits.specs.declared.Counts as limits
 use Rattle.limits.specs.Limits.{refusal, tests}
 use Rattle.draft.specs.declared.Outline.{Outline}
 use Rattle.draft.specs.Written.{Notes}
+use Rattle.fitting.specs.declared.Unfit.{Unfit}
 use Rattle.fitting.specs.Fits.{size_of, fit_of}
+use Rattle.decide.specs.declared.DecideError.{DecideError}
+use Rattle.decide.specs.declared.DecideError.TheVariants as decide
+use Rattle.trace.specs.declared.TraceError.TheVariants as trace
+use Rattle.recheck.specs.declared.CheckError.TheVariants as recheck
+use Rattle.listing.specs.declared.ListingError.TheVariants as listing
 use Rattle.ranking.specs.Rank.{head_fault, head_put, triple_fault, triple_put, Ranked}
 use Rattle.rows.specs.declared.Tally.{Tally}
 use Rattle.rows.specs.State.{before, ended}
@@ -62,7 +74,7 @@ One {A} allows = (r r' : A) → allows r → allows r' → r ≡ r'
 abbrev pub Both : {A B : Type 0} → (A → B → Type 0) → Type 0
 Both {A} {B} allow = (r r' : A) (x x' : B) → allow r x → allow r' x' → (r ≡ r') × (x ≡ x')
 
-pub record OneAnswer : Type 0 where
+pub record OneAnswer : Type 1 where
   -- text
   pub find : (s : List ℕ) (c : ℕ) → One (λ r. r ≡ length (first c s))
   pub same : (a b : List ℕ) → One (λ r. r ≡ same_bytes a b)
@@ -94,7 +106,9 @@ pub record OneAnswer : Type 0 where
   pub composed : (a b : ℕ) → One (λ r. r ≡ multiplied a b)
   pub rule_symbol : (ρ : Rule) → One (λ g. g ≡ symbol (meant ρ))
   pub through : (v b : ℕ) → One (λ r. r ≡ image v b)
+  pub next_one : (s : Ones) → Both (λ r left. TakesLowest s r left)
   -- steps
+  pub kind_from : (n : ℕ) → One (λ kind. kind ≡ kind_of n)
   pub class_steps_lem : (lent : List ℕ) → One (λ r. r ≡ class_steps (model_in lent))
   pub class_of_lem : (lent : List ℕ) (r : ℕ) → One (λ c. (c ≡ class_of (model_in lent) r) × (c < 256))
   pub symbol_of_lem : (c : ℕ) → One (λ g. (g ≡ symbol_of c) × (g < 32))
@@ -103,6 +117,8 @@ pub record OneAnswer : Type 0 where
   -- line, modelline and listingline
   pub spells : (s w : List ℕ) → One (λ r. r ≡ line.spells s w)
   pub read_from : (s : List ℕ) (b : ℕ) → One (λ r. r ≡ line.from s b)
+  pub words : {W : Type 0} (words : List ((List ℕ) × W)) (r r' : List ((Bor (List ℕ)) × W)) → map spelled r ≡ words → map spelled r' ≡ words → map spelled r ≡ map spelled r'
+  pub read_line : {W : Type 0} (words : List ((List ℕ) × W)) (other : W) (s : List ℕ) → One (λ r. r ≡ line_at words other s)
   pub model_line : (s : List ℕ) → One (λ r. r ≡ modelline.line_at s)
   pub listing_line : (s : List ℕ) → One (λ r. r ≡ listingline.line_at s)
   pub fault_number : (f : Fault) → One (λ r. r ≡ number_of f)
@@ -135,6 +151,12 @@ pub record OneAnswer : Type 0 where
   pub rule_closed_lem : (triples heads : List ℕ) (steps : ℕ) (ρ : Rule) → One (λ b. b ≡ rule_closed triples heads steps (meant ρ))
   -- explain
   pub explain : (lent : List ℕ) (t : looked.Table) (n : Counts) (f : Goal) → One (λ w. w ≡ found_as (explained (search_in lent t n) (ranks_in t) f))
+  -- decide, trace, recheck and listing: what `?` makes of an error below
+  pub decide_error : (unfit : Unfit) → One (λ e. e ≡ decide.Refused unfit)
+  pub trace_error : (undecided : DecideError) → One (λ e. e ≡ trace.Undecided undecided)
+  pub check_error : (unfit : Unfit) → One (λ e. e ≡ recheck.Refused unfit)
+  pub listing_unfit : (unfit : Unfit) → One (λ e. e ≡ listing.Refused unfit)
+  pub listing_text : (wrong : TextError) → One (λ e. e ≡ listing.Text wrong)
   -- output
   pub front : (out : List ℕ) (k : ℕ) → One (λ part. part ≡ take k out)
   -- violation, refusal, report and rereport

@@ -28,10 +28,13 @@ fn sizes_in(symbols: usize, states: usize, events: usize, rules: usize, moves: u
 fn row_in(row: Row, symbols: u8) -> bool
     ensures { result ≡ leb row.kind 2 && symbols_in symbols (rule_by row.kind row.symbol row.over row.under) }
 {
-    row.kind <= 2
-        && row.symbol < symbols
-        && (row.kind < 1 || row.over < symbols)
-        && (row.kind < 2 || row.under < symbols)
+    row.symbol < symbols
+        && match row.kind {
+            0 => true,
+            1 => row.over < symbols,
+            2 => row.over < symbols && row.under < symbols,
+            _ => false,
+        }
 }
 
 fn rules_in(m: &Lent, symbols: u8, count: usize) -> bool

@@ -39,6 +39,7 @@ pub struct LineRead<W> {
 }
 
 // What the line says that s begins with. An unknown word has no numbers: these begin past the end.
+#[inline(always)]
 pub fn read_line<W: Words>(s: &[u8]) -> LineRead<W>
     ensures { result ≡ line_at W.words W.UNKNOWN s.now }
 {
@@ -49,6 +50,7 @@ pub fn read_line<W: Words>(s: &[u8]) -> LineRead<W>
 }
 
 // A line with the word, and the numbers from b on.
+#[inline(always)]
 fn line_from<W>(s: &[u8], word: W, b: usize) -> LineRead<W>
     ensures { result ≡ line_from s.now word b }
 {

@@ -1,5 +1,5 @@
 -- What the public call answers and leaves, case by case. Assumes nothing.
-use mathlib.Core.Bool.{cond}
+use mathlib.Core.Bool.{Bool, true, false, cond}
 use mathlib.Core.Path.{◌≡◌, refl, sym, ap, ◌∙◌}
 use mathlib.Core.List.{List, [], ◌∷◌}
 use Prim.Native.Nat.{ℕ, ◌≤◌}
@@ -7,6 +7,7 @@ use native.Mathlib.Omega.{arith}
 use lib.Dec.{eqb}
 use lib.ListN.{length, replicate}
 use borrow.Author.Tests.{eq-eqb, ne_eqb}
+use Rattle.text.specs.Split.{pick}
 use Rattle.product.specs.Answer.{Answer, answered, refused}
 use Rattle.product.proofs.Answer.{apart}
 use Rattle.model.specs.declared.Model.{Model}
@@ -26,7 +27,7 @@ use Rattle.product.specs.Table.{absent}
 use Rattle.rows.specs.declared.Tally.{Tally}
 use Rattle.rows.specs.State.{Ended, before, ended}
 use Rattle.rows.specs.Lines.{start_state, read_text}
-use Rattle.rows.proofs.Refusals.{some_number}
+use Rattle.rows.proofs.Refusals.{some_number, text_of}
 use Rattle.listing.specs.Reading.{ListingRead, meaning, lines_of, answer_of, filled, heads_left, triples_left, Reads}
 use Rattle.listing.specs.declared.ListingError.TheVariants.{Refused, Text}
 
@@ -52,16 +53,27 @@ meant_meaning (Err (Text (Line TooMany line))) = refl
 pub meaning_one : (r r' : ListingRead) → meaning r ≡ meaning r' → r ≡ r'
 meaning_one = apart meant meant_meaning
 
+-- the number of an answer
+abbrev number : Answer ℕ → ℕ
+number (answered rounds) = 0
+number (refused n values) = n
+
+-- only `TooMany` has 5
+full : {r : ListingRead} {n line : ℕ} → number (meaning r) ≡ n → r ≡ Err (Text (Line TooMany line)) → n ≡ 5
+full e z = sym e ∙ ap (λ r. number (meaning r)) z
+
 -- why a record or an array is refused, as `?` passes it on
 module _ (m : Model) (text hs ts : List ℕ) where
   unfit : (u : Unfit) → Err u ≡ fit_of m (length hs) (length ts) → Reads m text hs ts hs ts (Err (Refused u))
   unfit Invalid e = record {
     answer = sym (is_unfit m (length hs) (length ts) e _ _ _);
+    never_full = λ line z. let n = full refl z in absurd (omega arith);
     heads_left_lem = sym (is_unfit m (length hs) (length ts) e _ _ _);
     triples_left_lem = sym (is_unfit m (length hs) (length ts) e _ _ _);
   }
   unfit Short e = record {
     answer = sym (is_unfit m (length hs) (length ts) e _ _ _);
+    never_full = λ line z. let n = full refl z in absurd (omega arith);
     heads_left_lem = sym (is_unfit m (length hs) (length ts) e _ _ _);
     triples_left_lem = sym (is_unfit m (length hs) (length ts) e _ _ _);
   }
@@ -69,6 +81,15 @@ module _ (m : Model) (text hs ts : List ℕ) where
   pub unfit_passed : (u : Unfit) → Err u ≡ fit_of m (length hs) (length ts) → (r : ListingRead) → IsErrAnd r (λ e. e ≡ Refused u) → Reads m text hs ts hs ts r
   unfit_passed u e (Err x) n = rw n (unfit u e)
   unfit_passed u e (Ok x) n = absurd n
+
+-- a text is refused by 4 at most
+answer_small : (e : Ended) → e.refusal ≤ 4 → number (answer_of e) ≤ 4
+unfolding answer_of
+answer_small e h = go (eqb e.refusal 0)
+  where
+    go : (b : Bool) → number (pick b (answered e.state.rounds) (refused e.refusal (e.line ∷ []))) ≤ 4
+    go true = omega arith
+    go false = h
 
 -- where no fact has a rank, the lines of a text are those of a listing
 pub lines_read : (m : Model) (text : List ℕ) {z : Size} {e : Ended} → z ≡ size_of m
@@ -81,6 +102,7 @@ module _ (m : Model) (text hs ts : List ℕ) (f : Fits m (length hs) (length ts)
   read : {hs' ts' : List ℕ} {r : ListingRead} → meaning r ≡ answer_of e → hs' ≡ heads_left m e hs → ts' ≡ triples_left m e ts → Reads m text hs ts hs' ts' r
   read a b c = record {
     answer = a ∙ ap answer_of is ∙ sym (tested_well m (length hs) (length ts) f _ _ _);
+    never_full = λ line z. let n = full (ap number (a ∙ ap answer_of is)) z in let h = answer_small (lines_of m text) (text_of (size_of m) start_state text).small in absurd (omega arith);
     heads_left_lem = b ∙ ap (λ x. heads_left m x hs) is ∙ sym (tested_well m (length hs) (length ts) f _ _ _);
     triples_left_lem = c ∙ ap (λ x. triples_left m x ts) is ∙ sym (tested_well m (length hs) (length ts) f _ _ _);
   }

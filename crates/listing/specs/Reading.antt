@@ -3,6 +3,8 @@ use Rattle.std.specs.Prelude.{List, [], ◌∷◌, ◌≡◌, ℕ, zero, suc, Re
 use Rattle.text.specs.Split.{pick}
 use Rattle.product.specs.Answer.{Answer, answered, refused}
 use Rattle.model.specs.declared.Model.{Model}
+use Rattle.line.specs.declared.fault.Fault.TheVariants.{TooMany}
+use Rattle.line.specs.declared.fault.TextError.TheVariants.{Line}
 use Rattle.line.specs.Fault.{text_number, text_line}
 use Rattle.fitting.specs.Fits.{size_of, heads_of, triples_of, tested, guarded, refused_by}
 use Rattle.rows.specs.State.{Ended}
@@ -40,8 +42,9 @@ heads_left m r hs = pick (eqb r.refusal 0) (filled (heads_of m) r.state.headcell
 unfoldable pub triples_left : Model → Ended → List ℕ → List ℕ
 triples_left m r ts = pick (eqb r.refusal 0) (filled (triples_of m) r.state.triplecells ts) ts
 
--- the answer, and the two arrays afterwards: 6 and 7, then the text
+-- the answer, and the two arrays afterwards: 6 and 7, then the text, which is never refused by 5
 pub record Reads (m : Model) (text heads triples headsAfter triplesAfter : List ℕ) (r : ListingRead) : Type 0 where
   pub answer : meaning r ≡ guarded m (length heads) (length triples) (answer_of (lines_of m text))
+  pub never_full : (line : ℕ) → r ≡ Err (Text (Line TooMany line)) → ⊥
   pub heads_left_lem : headsAfter ≡ tested m (length heads) (length triples) heads heads (heads_left m (lines_of m text) heads)
   pub triples_left_lem : triplesAfter ≡ tested m (length heads) (length triples) triples triples (triples_left m (lines_of m text) triples)

@@ -16,6 +16,8 @@ pub enum Word {
 
 pub type Line = line::Line<Word>;
 
+pub type LineRead = line::LineRead<Word>;
+
 // Nearly all lines begin with one of the first two.
 const WORDS: &[(&[u8], Word)] = &[
     (b"erase", Word::Erase),

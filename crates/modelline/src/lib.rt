@@ -21,6 +21,8 @@ pub enum Word {
 
 pub type Line = line::Line<Word>;
 
+pub type LineRead = line::LineRead<Word>;
+
 const WORDS: &[(&[u8], Word)] = &[
     (b"size", Word::Size),
     (b"start", Word::Start),

@@ -85,11 +85,11 @@ fn read_field(s: &[u8]) -> Option<FieldRead>
     ensures { result ≡ field_of s.now }
 {
     let run = read_digits(s);
-    let stop = run.stop;
-    if stop != b'\n' && stop != b'\t' {
+    if !well_written(s, run.count) {
         return None;
     }
-    if !well_written(s, run.count) {
+    let stop = run.stop;
+    if stop != b'\n' && stop != b'\t' {
         return None;
     }
     Some(FieldRead {

@@ -17,7 +17,8 @@ pub trait Call {
 }
 
 // Reads a text, as much of it as `space` has room for, lets the call put its answer into `out`, and writes as many bytes of that as the call
-// says, or all where there are fewer. After an error nothing is written, or the text was read to its end and the call was made.
+// says, or all where there are fewer. After an error nothing is written, or the text was read, to its end or until the memory was full, and the
+// call was made.
 pub fn answer<C: Call, R: Read, W: Write>(
     call: &C,
     reader: &mut R,

@@ -3,11 +3,12 @@ use mathlib.Core.Bool.{Bool, true, false, not}
 use mathlib.Core.List.{List, [], ◌∷◌}
 use mathlib.Core.Option.{Option, none, some}
 use mathlib.Core.Path.{◌≡◌, refl, sym, ap, ◌∙◌, subst, subst⁻¹}
-use Prim.Native.Nat.{ℕ, ◌%◌, ◌<◌, ◌≤◌}
+use Prim.Native.Nat.{ℕ, ◌%◌, ◌+◌, ◌<◌, ◌≤◌}
 use native.Mathlib.Nat.{mod-eq_of_lt}
 use native.Mathlib.Omega.{arith}
 use lib.Dec.{T}
 use lib.ListN.{length, get_or}
+use borrow.Author.Count.{below_more}
 use Rattle.std.specs.Prelude as code
 use Rattle.product.specs.Lists.{up_to, over, each, all, find}
 use Rattle.product.specs.Product.{symbol, Step}
@@ -22,6 +23,7 @@ use Rattle.model.specs.Answers.{rule_as, meant}
 use Rattle.model.specs.Model.{product_of, rule}
 use Rattle.model.specs.Valid.{valid}
 use Rattle.model.proofs.Answers.{meant_as}
+use Rattle.model.proofs.Counted.{passed, failed}
 use Rattle.model.proofs.Valid.{all_below, valid_sizes, product_in_lem}
 use Rattle.steps.specs.Steps.{class_of, class_steps}
 use Rattle.steps.proofs.Laws.{class_of_lem, steps_in, steps_lt, step_entry, entry_step}
@@ -33,7 +35,7 @@ use Rattle.closed.proofs.Kept.{Has, closed_exactly}
 use Rattle.table.specs.Cells.{head_count, triple_count}
 use Rattle.fitting.specs.Fits.{size_of}
 use Rattle.recheck.specs.Recheck.{Sized}
-use Rattle.recheck.specs.Tests.{step_kept, steps_kept, step, is_closed, is_open, closed_by, opening_of, found_as}
+use Rattle.recheck.specs.Tests.{step_kept, steps_kept, step, is_closed, is_open, closed_by, FirstOpen, opening_of, found_as}
 use Rattle.recheck.proofs.Finding.{hit, miss}
 use Rattle.recheck.proofs.Matrices.{triple_in_lem}
 
@@ -52,6 +54,15 @@ module _ (m : Model) (tg ts hs : List ℕ) (r : ℕ) {c : ℕ} {ρ : Rule} {b : 
   pub by_matrices : b ≡ closed_by m tg ts hs r
   unfolding closed_by
   by_matrices = tested ∙ ap (λ c. rule_closed ts hs (get_or tg c 0) (meant ρ)) class ∙ ap (rule_closed ts hs (get_or tg (class_of m r) 0)) (ap meant read ∙ meant_as (rule m r))
+
+  pub opens_here : (n : ℕ) → r < n → ((j : ℕ) → j < r → T (closed_by m tg ts hs j)) → b ≡ false → FirstOpen (closed_by m tg ts hs) n (code.Some r)
+  opens_here n l k h = (l, failed by_matrices h, k)
+
+  pub closed_more : ((j : ℕ) → j < r → T (closed_by m tg ts hs j)) → b ≡ true → (j : ℕ) → j < r + 1 → T (closed_by m tg ts hs j)
+  closed_more k h = below_more (λ j. T (closed_by m tg ts hs j)) r k (rw (passed by_matrices h) tt)
+
+pub all_closed : (p : ℕ → Bool) (n r : ℕ) → r ≤ n → n ≤ r → ((j : ℕ) → j < r → T (p j)) → FirstOpen p n code.None
+all_closed p n r i l k = λ j h. k j (omega arith)
 
 -- the matrices that the code made are those of the facts
 module _ (m : Model) (v : T (valid m)) (heads triples : List ℕ) where
